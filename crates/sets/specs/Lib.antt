@@ -1,0 +1,2 @@
+-- The definitions: sets of processes as masks.
+pub mod Sets
