@@ -1,0 +1,169 @@
+-- The front page: what is shown of the round machine, each as a named theorem that cites its law.
+-- `ran n v es` is any run: n processes open with the values v, and es is any list of events, refused ones and broadcasts included.
+-- Assumes nothing.
+use Prim.Native.Nat.{ℕ, _+_, _≤_, _<_, _^_}
+use mathlib.Core.Path.{_≡_}
+use mathlib.Core.Logic.{_↔_}
+use mathlib.Core.Bool.{true, false}
+use mathlib.Core.List.{List, _++_}
+use Rattle.sets.specs.Sets.{has}
+use Rattle.voting.specs.Voting.{message}
+use Rattle.rounds.specs.declared.Stage.{Stage}
+use Rattle.rounds.specs.declared.Stage.the-variants.{Sending, Collecting, Pending, Idle}
+use Rattle.rounds.specs.declared.Event.{Event}
+use Rattle.rounds.specs.declared.Event.the-variants.{Broadcast}
+use Rattle.rounds.specs.declared.Verdict.the-variants.{Accepted}
+use Rattle.rounds.specs.Limits.{window, lastRound, mostEvents}
+use Rattle.rounds.specs.Run.{Control, Content, Config, openControl, opening}
+use Rattle.rounds.specs.Stages.{stage, tick}
+use Rattle.rounds.specs.Verdicts.{openVerdict, verdict}
+use Rattle.rounds.specs.Events.{sendControl, sendContent, apply}
+use Rattle.rounds.specs.Runs.{after, verdicts, Report, reports, replay, replayVerdict, sends}
+use Rattle.rounds.specs.Allowed.{Opens, Sends, Allowed}
+use Rattle.rounds.specs.Leads.{Leads, Reached}
+use Rattle.rounds.specs.Claims.{ran, Everyone, Live, Moment, moments, times, total, Agree}
+use Rattle.rounds.proofs.Answers.{accepted-is, refused-is, opens-right, right-opens, allowed, allows}
+use Rattle.rounds.proofs.Leading.{reached}
+use Rattle.rounds.proofs.Mail.{written-once}
+use Rattle.rounds.proofs.Running.{apply-refused, broadcast-sends, broadcast-first, replay-whole}
+use Rattle.rounds.proofs.InRuns as run
+use Rattle.rounds.proofs.Independence.{same-control, same-verdicts, same-reports, same-holding}
+
+-- ================ Demand 1, of the abstract machine
+-- a refused event changes no state and no count
+pub refused-changes-nothing : (c : Config) (e : Event) → (verdict (c .control) e ≡ Accepted → ⊥) → apply c e ≡ c
+refused-changes-nothing c e r = apply-refused c e (refused-is (verdict (c .control) e) r)
+
+-- ================ Demand 2
+-- an event is accepted exactly when the round machine, within the limits, allows it
+pub accepted-exactly : (c : Control) (e : Event) → (verdict c e ≡ Accepted) ↔ Allowed c e
+accepted-exactly c e = (λ a. allowed c e (accepted-is (verdict c e) a), allows c e)
+
+-- an opening is accepted exactly for 1 to 16 processes with a value for each
+pub opened-exactly : (n given : ℕ) → (openVerdict n given ≡ Accepted) ↔ Opens n given
+opened-exactly n given = (λ a. opens-right n given (accepted-is (openVerdict n given) a), right-opens n given)
+
+-- every run is made of accepted sends, receives and steps, with the heard-of sets that its steps report
+pub made-of-three : (n : ℕ) (v : ℕ → ℕ) (es : List Event) → Reached n v (ran n v es .control) (ran n v es .content) (reports (opening n v) es)
+made-of-three = reached
+
+-- an accepted broadcast is its N sends
+pub broadcast-is-sends : (c : Config) (p : ℕ) → verdict (c .control) (Broadcast p) ≡ Accepted
+    → apply c (Broadcast p) ≡ after c (sends (c .control .size) p)
+broadcast-is-sends c p a = broadcast-sends c p (accepted-is _ a)
+
+-- with room for N events, it is answered as the first of its sends that is refused
+pub broadcast-answer : (c : Config) (p : ℕ) → p < c .control .size → c .control .events + c .control .size ≤ mostEvents
+    → verdict (c .control) (Broadcast p) ≡ replayVerdict c (sends (c .control .size) p)
+broadcast-answer = broadcast-first
+
+-- a replay without a refusal is the run of all its events
+pub replay-is-run : (c : Config) (es : List Event) → replayVerdict c es ≡ Accepted → replay c es ≡ after c es
+replay-is-run c es a = replay-whole c es (accepted-is _ a)
+
+-- ---- the counts and the stages
+-- each count is the number of accepted events just before which the process was at that stage
+pub counts-count : (n : ℕ) (v : ℕ → ℕ) (es : List Event) (p : ℕ) (s : Stage) → ran n v es .control .count p s ≡ times p s (moments (openControl n) es)
+counts-count = run.count-in
+
+-- the four counts of a process add up to the accepted events
+pub counts-add-up : (n : ℕ) (v : ℕ → ℕ) (es : List Event) (p : ℕ) → total (ran n v es .control .count p) ≡ ran n v es .control .events
+counts-add-up = run.total-in
+
+-- the stages are those of document 01's table: whichever line of it holds of a process, that is its stage
+pub record Table (n : ℕ) (c : Control) (p : ℕ) : Type 0 where
+  pub sending : (q : ℕ) → q < n → has (c .site p .sent) q ≡ false → stage c p ≡ Sending
+  pub collecting : Everyone n (c .site p .sent) → (q : ℕ) → has (c .transit p (c .site p .round)) q ≡ true → stage c p ≡ Collecting
+  pub pending : Everyone n (c .site p .sent) → ((q : ℕ) → q < n → has (c .transit p (c .site p .round)) q ≡ false)
+      → (q : ℕ) → q < n → has (c .site p .heard) q ≡ false → stage c p ≡ Pending
+  pub idle : Everyone n (c .site p .sent) → Everyone n (c .site p .heard) → stage c p ≡ Idle
+
+pub stages-table : (n : ℕ) (v : ℕ → ℕ) (es : List Event) (p : ℕ) → Table n (ran n v es .control) p
+stages-table n v es p =
+    record {
+      sending = run.sending-in n v es p;
+      collecting = run.collecting-in n v es p;
+      pending = run.pending-in n v es p;
+      idle = run.idle-in n v es p;
+    }
+
+-- ---- the limits
+pub record InLimits (n : ℕ) (c : Control) : Type 0 where
+  -- the lead is at most 8, and so, either way round, from -8 to 8
+  pub lead : (p q : ℕ) → p < n → q < n → c .site p .round ≤ c .site q .round + window
+  -- what is in transit to p is for its own round or the seven after it
+  pub near : (p r q : ℕ) → has (c .transit p r) q ≡ true → (c .site p .round ≤ r) × (r < c .site p .round + window)
+  pub rounds : (p : ℕ) → (1 ≤ c .site p .round) × (c .site p .round ≤ lastRound)
+  pub events : c .events ≤ mostEvents
+  -- every set is one of processes below n
+  pub sent : (p : ℕ) → c .site p .sent < 2 ^ n
+  pub heard : (p : ℕ) → c .site p .heard < 2 ^ n
+  pub transit : (p r : ℕ) → c .transit p r < 2 ^ n
+  pub reach : (p : ℕ) → p < n → c .site p .reach < 2 ^ n
+  -- a process is in its own reach
+  pub own : (p : ℕ) → has (c .site p .reach) p ≡ true
+
+pub limits : (n : ℕ) (v : ℕ → ℕ) (es : List Event) → InLimits n (ran n v es .control)
+limits n v es =
+    record {
+      lead = run.lead-in n v es;
+      near = run.near-in n v es;
+      rounds = run.rounds-in n v es;
+      events = run.events-in n v es;
+      sent = run.sent-in n v es;
+      heard = run.heard-in n v es;
+      transit = run.transit-in n v es;
+      reach = run.reach-in n v es;
+      own = run.own-in n v es;
+    }
+
+pub reach-never-shrinks : (n : ℕ) (v : ℕ → ℕ) (es later : List Event) (p q : ℕ)
+    → has (ran n v es .control .site p .reach) q ≡ true → has (ran n v (es ++ later) .control .site p .reach) q ≡ true
+reach-never-shrinks = run.reach-grows-in
+
+-- ---- mail is true
+-- of a message for round r from y to x, in transit or heard this round
+pub record Faithful (n : ℕ) (v : ℕ → ℕ) (es : List Event) (x r y : ℕ) : Type 0 where
+  -- there was a moment at which its sender was at that round
+  pub sent : Moment (opening n v) es y r
+  -- and at every such moment its sender had the value, vote and reach that the message carries
+  pub carries : (earlier later : List Event) → earlier ++ later ≡ es → ran n v earlier .control .site y .round ≡ r
+      → (ran n v es .content .mail x r y ≡ message (ran n v earlier .content .holding y))
+      × (ran n v es .control .carried x r y ≡ ran n v earlier .control .site y .reach)
+
+pub mail-is-true : (n : ℕ) (v : ℕ → ℕ) (es : List Event) (x r y : ℕ) → Live (ran n v es .control) x r y → Faithful n v es x r y
+mail-is-true n v es x r y l = record { sent = run.moment-in n v es x r y l; carries = run.mail-in n v es x r y l }
+
+-- no message is written twice: while a message is live, its sender may not send it anew
+pub never-overwritten : (n : ℕ) (v : ℕ → ℕ) (es : List Event) (p q : ℕ)
+    → Live (ran n v es .control) q (ran n v es .control .site p .round) p → Sends (ran n v es .control) p q → ⊥
+never-overwritten = run.not-live-in
+
+-- and once p has sent to q, at all that this leads to p may not send to q before its next round
+pub never-sent-twice : (c : Control) (d : Content) {c₁ : Control} {d₁ : Content} {rs : List Report} (p q : ℕ)
+    → Leads (sendControl (tick c) p q) (sendContent c d p q) c₁ d₁ rs → c₁ .site p .round ≡ c .site p .round → Sends c₁ p q → ⊥
+never-sent-twice = written-once
+
+-- ================ Demand 3
+-- of two runs of the same events by n processes, one from the values v and one from w
+pub record Independent (n : ℕ) (v w : ℕ → ℕ) (es : List Event) : Type 0 where
+  -- acceptances and numbers are equal
+  pub answers : verdicts (opening n v) es ≡ verdicts (opening n w) es
+  -- and so are rounds, sent and heard sets, reach, stages, counts and what is in transit
+  pub control : ran n v es .control ≡ ran n w es .control
+  -- and the heard-of sets that the steps report
+  pub heardOf : reports (opening n v) es ≡ reports (opening n w) es
+  -- and value, vote and decision of a process, where v and w agree on its reach after these and any later events
+  pub holding : (later : List Event) (p : ℕ) → Agree v w (ran n v (es ++ later) .control .site p .reach)
+      → ran n v es .content .holding p ≡ ran n w es .content .holding p
+
+pub independent : (n : ℕ) (v w : ℕ → ℕ) (es : List Event) → Independent n v w es
+independent n v w es =
+    record {
+      answers = same-verdicts n v w es;
+      control = same-control n v w es;
+      heardOf = same-reports n v w es;
+      holding = same-holding n v w es;
+    }
+
+-- The examples of document 01 and our own are in AllExamples, and what the machine is not in NotAToy.

@@ -1,0 +1,127 @@
+-- What each accepted send, receive and step keeps, said of runs: the laws that the front page cites.
+-- Assumes nothing.
+use Prim.Native.Nat.{ℕ, _+_, _≤_, _<_, _^_}
+use native.Mathlib.Omega.{arith}
+use mathlib.Core.Path.{_≡_, refl}
+use mathlib.Core.Bool.{true, false}
+use mathlib.Core.List.{List, _++_}
+use Rattle.sets.specs.Sets.{has}
+use Rattle.voting.specs.Voting.{message}
+use Rattle.rounds.specs.declared.Stage.{Stage}
+use Rattle.rounds.specs.declared.Stage.the-variants.{Sending, Collecting, Pending, Idle}
+use Rattle.rounds.specs.declared.Event.{Event}
+use Rattle.rounds.specs.Limits.{window, lastRound, mostEvents}
+use Rattle.rounds.specs.Run.{Control, openControl, opening}
+use Rattle.rounds.specs.Stages.{stage}
+use Rattle.rounds.specs.Allowed.{Sends}
+use Rattle.rounds.specs.Claims.{ran, Everyone, Live, Moment, moments, times, total}
+use Rattle.rounds.proofs.Leading.{leads, reached}
+use Rattle.rounds.proofs.Kept.{Kept, kept}
+use Rattle.rounds.proofs.Limits.{size-stays, rounds-kept, events-kept, Window, window-kept, open-window, in-window, Within, within-kept, open-within}
+use Rattle.rounds.proofs.Lead.{led-kept, open-led}
+use Rattle.rounds.proofs.Counts.{counts, total-kept}
+use Rattle.rounds.proofs.Reach.{reach-grows, own-reach}
+use Rattle.rounds.proofs.Live.{live-from, open-silent}
+use Rattle.rounds.proofs.Mail.{spoken-fresh, mail-true, not-live}
+use Rattle.rounds.proofs.Table.{Once, once-kept, open-once, at-sending, at-collecting, at-pending, at-idle}
+use Rattle.rounds.proofs.Running.{after-append, moment}
+
+module _ (n : ℕ) (v : ℕ → ℕ) (es : List Event) where
+  abbrev now : Control
+  now = ran n v es .control
+
+  -- what every event keeps and the opening has, the run has
+  throughout : (I : Control → Type 0) → Kept (λ c d. I c) → I (openControl n) → I now
+  throughout I k i = kept (λ c d. I c) k (reached n v es) i
+
+  size-in : now .size ≡ n
+  unfolding openControl
+  size-in = size-stays (reached n v es)
+
+  -- ---- the limits
+  pub lead-in : (p q : ℕ) → p < n → q < n → now .site p .round ≤ now .site q .round + window
+  lead-in p q hp hq = let size = size-in in throughout _ led-kept (open-led n) p q (omega arith) (omega arith) .0
+
+  window-in : Window now
+  window-in = throughout _ window-kept (open-window n)
+
+  pub near-in : (p r q : ℕ) → has (now .transit p r) q ≡ true → (now .site p .round ≤ r) × (r < now .site p .round + window)
+  near-in = in-window now window-in
+
+  pub rounds-in : (p : ℕ) → (1 ≤ now .site p .round) × (now .site p .round ≤ lastRound)
+  unfolding openControl
+  rounds-in = throughout _ rounds-kept (λ x. (omega arith, omega arith))
+
+  pub events-in : now .events ≤ mostEvents
+  unfolding openControl
+  events-in = throughout _ events-kept (omega arith)
+
+  within-in : Within now
+  within-in = throughout _ within-kept (open-within n)
+
+  pub sent-in : (p : ℕ) → now .site p .sent < 2 ^ n
+  sent-in p = rw size-in at (within-in .sent p)
+
+  pub heard-in : (p : ℕ) → now .site p .heard < 2 ^ n
+  heard-in p = rw size-in at (within-in .heard p)
+
+  pub transit-in : (p r : ℕ) → now .transit p r < 2 ^ n
+  transit-in p r = rw size-in at (within-in .transit p r)
+
+  pub reach-in : (p : ℕ) → p < n → now .site p .reach < 2 ^ n
+  reach-in p h = let size = size-in in rw size-in at (within-in .reach p (omega arith))
+
+  pub own-in : (p : ℕ) → has (now .site p .reach) p ≡ true
+  own-in = own-reach n v (reached n v es)
+
+  pub reach-grows-in : (later : List Event) (p q : ℕ) → has (now .site p .reach) q ≡ true → has (ran n v (es ++ later) .control .site p .reach) q ≡ true
+  reach-grows-in later p q t = rw (after-append (opening n v) es later) (reach-grows (leads (ran n v es) later) p q t)
+
+  -- ---- the counts
+  pub count-in : (p : ℕ) (s : Stage) → now .count p s ≡ times p s (moments (openControl n) es)
+  unfolding opening openControl
+  count-in p s = let all = counts (opening n v) es p s in omega arith
+
+  pub total-in : (p : ℕ) → total (now .count p) ≡ now .events
+  unfolding openControl total
+  total-in = throughout _ total-kept (λ x. refl)
+
+  -- ---- the stages
+  once-in : Once now
+  once-in = kept _ once-kept (reached n v es) ((λ x r y l. absurd (open-silent n x r y l)), open-once n) .1
+
+  all-in : (s : ℕ) → Everyone n s → Everyone (now .size) s
+  all-in s all q h = let size = size-in in all q (omega arith)
+
+  pub sending-in : (p q : ℕ) → q < n → has (now .site p .sent) q ≡ false → stage now p ≡ Sending
+  sending-in p q h = let size = size-in in at-sending now within-in p q (omega arith)
+
+  pub collecting-in : (p : ℕ) → Everyone n (now .site p .sent) → (q : ℕ) → has (now .transit p (now .site p .round)) q ≡ true → stage now p ≡ Collecting
+  collecting-in p all = at-collecting now within-in p (all-in _ all)
+
+  pub pending-in : (p : ℕ) → Everyone n (now .site p .sent) → ((q : ℕ) → q < n → has (now .transit p (now .site p .round)) q ≡ false)
+      → (q : ℕ) → q < n → has (now .site p .heard) q ≡ false → stage now p ≡ Pending
+  pending-in p all none q h = let size = size-in in at-pending now within-in p (all-in _ all) (λ y l. none y (omega arith)) q (omega arith)
+
+  pub idle-in : (p : ℕ) → Everyone n (now .site p .sent) → Everyone n (now .site p .heard) → stage now p ≡ Idle
+  idle-in p all heard = at-idle now within-in p once-in (all-in _ all) (all-in _ heard)
+
+  -- ---- the mail
+  pub moment-in : (x r y : ℕ) → Live now x r y → Moment (opening n v) es y r
+  unfolding opening openControl
+  moment-in x r y l =
+      let least = live-from now window-in x r y l in
+      let first = rounds-in x .0 in
+      moment (opening n v) es y r (omega arith) (spoken-fresh n v (reached n v es) .0 x r y l .0)
+
+  pub not-live-in : (p q : ℕ) → Live now q (now .site p .round) p → Sends now p q → ⊥
+  not-live-in p q l h = not-live n v (reached n v es) p q h l
+
+pub mail-in : (n : ℕ) (v : ℕ → ℕ) (es : List Event) (x r y : ℕ) → Live (ran n v es .control) x r y
+    → (earlier later : List Event) → earlier ++ later ≡ es → ran n v earlier .control .site y .round ≡ r
+    → (ran n v es .content .mail x r y ≡ message (ran n v earlier .content .holding y))
+    × (ran n v es .control .carried x r y ≡ ran n v earlier .control .site y .reach)
+mail-in n v es x r y l earlier later whole round =
+    rw (← whole, after-append (opening n v) earlier later, ← round)
+    (mail-true n v (reached n v earlier) (leads (ran n v earlier) later) x y
+    (rw (← whole, after-append (opening n v) earlier later, ← round) at l))

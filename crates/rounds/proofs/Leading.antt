@@ -1,0 +1,67 @@
+-- A run of any list of events, refused ones and broadcasts included, is made of accepted sends, receives and steps.
+-- Assumes nothing.
+use Prim.Native.Nat.{ℕ, zero, suc, _≤_}
+use native.Mathlib.Omega.{arith}
+use mathlib.Core.Path.{_≡_, refl, sym, subst}
+use mathlib.Core.Bool.{Bool, true, false, cond}
+use mathlib.Core.List.{List, [], _∷_, _++_, append-nil, append-assoc}
+use Rattle.rounds.specs.declared.Event.{Event}
+use Rattle.rounds.specs.declared.Event.the-variants.{Send, Receive, Step, Broadcast}
+use Rattle.rounds.specs.Run.{Control, Content, Config, opening}
+use Rattle.rounds.specs.Verdicts.{accepted, verdict}
+use Rattle.rounds.specs.Events.{sendsControl, sendsContent, nextControl, nextContent, ifAccepted, applyControl, applyContent, apply}
+use Rattle.rounds.specs.Runs.{after, Report, told, reports}
+use Rattle.rounds.specs.Allowed.{Broadcasts, Allowed}
+use Rattle.rounds.specs.Leads.{Leads, Reached}
+use Rattle.rounds.specs.Leads.Leads.{stays, sends, receives, steps}
+use Rattle.rounds.proofs.Answers.{allowed}
+use Rattle.rounds.proofs.Broadcasts.{each-sends}
+
+module _ {c₀ : Control} {d₀ : Content} where
+  sends-lead : {c : Control} {d : Content} {rs : List Report} → Leads c₀ d₀ c d rs → (p : ℕ) → Broadcasts c p
+      → (k : ℕ) → k ≤ c .size → Leads c₀ d₀ (sendsControl k c p) (sendsContent k c d p) rs
+  unfolding sendsControl sendsContent
+  sends-lead l p b zero h = l
+  sends-lead {c = c} l p b (suc k) h = sends (sends-lead l p b k (omega arith)) p k (each-sends c p b k h)
+
+  unreported : {c : Control} {d : Content} {rs : List Report} → Leads c₀ d₀ c d rs → Leads c₀ d₀ c d (rs ++ [])
+  unreported {c = c} {d = d} {rs = rs} l = subst (λ (xs : List Report). Leads c₀ d₀ c d xs) (sym (append-nil rs)) l
+
+  next-leads : {c : Control} {d : Content} {rs : List Report} → Leads c₀ d₀ c d rs → (e : Event) → Allowed c e
+      → Leads c₀ d₀ (nextControl c e) (nextContent c d e) (rs ++ told c e)
+  unfolding nextControl nextContent told
+  next-leads l (Send p q) h = unreported (sends l p q h)
+  next-leads l (Receive p q) h = unreported (receives l p q h)
+  next-leads l (Step p) h = steps l p h
+  next-leads {c = c} l (Broadcast p) h = unreported (sends-lead l p h (c .size) (omega arith))
+
+  apply-leads : {c : Control} {d : Content} {rs : List Report} → Leads c₀ d₀ c d rs → (e : Event)
+      → Leads c₀ d₀ (applyControl c e) (applyContent c d e) (rs ++ ifAccepted (verdict c e) (told c e) [])
+  unfolding applyControl applyContent ifAccepted
+  apply-leads {c = c} {d = d} {rs = rs} l e = go (accepted (verdict c e)) refl
+    where
+      go : (b : Bool) → accepted (verdict c e) ≡ b
+          → Leads c₀ d₀ (cond b (nextControl c e) c) (cond b (nextContent c d e) d) (rs ++ cond b (told c e) [])
+      go true a = next-leads l e (allowed c e a)
+      go false a = unreported l
+
+  onward : {c : Control} {d : Content} {rs : List Report} → Leads c₀ d₀ c d rs → (es : List Event)
+      → Leads c₀ d₀ (after (record { control = c; content = d }) es .control) (after (record { control = c; content = d }) es .content)
+      (rs ++ reports (record { control = c; content = d }) es)
+  unfolding after apply reports
+  onward l [] = unreported l
+  onward {c = c} {d = d} {rs = rs} l (e ∷ es) =
+      subst
+      (λ (xs : List Report). Leads c₀ d₀ (after (apply (record { control = c; content = d }) e) es .control) (after (apply (record { control = c; content = d }) e) es .content) xs)
+      (append-assoc rs (ifAccepted (verdict c e) (told c e) []) (reports (apply (record { control = c; content = d }) e) es))
+      (onward (apply-leads l e) es)
+
+-- what a configuration is after a list of events, it leads to
+pub leads : (c : Config) (es : List Event) → Leads (c .control) (c .content) (after c es .control) (after c es .content) (reports c es)
+leads c es = onward stays es
+
+-- every run of every list of events is reached
+pub reached : (n : ℕ) (v : ℕ → ℕ) (es : List Event)
+    → Reached n v (after (opening n v) es .control) (after (opening n v) es .content) (reports (opening n v) es)
+unfolding opening
+reached n v es = leads (opening n v) es

@@ -1,0 +1,156 @@
+-- What a run of a list of events is: a refused event changes nothing, a broadcast is its sends, a replay without a refusal is the run of all
+-- its events, and every round that a process has come to was its round at some moment. Assumes nothing.
+use Prim.Native.Nat.{ℕ, zero, suc, _+_, _≤_, _<_}
+use native.Mathlib.Omega.{arith}
+use native.Mathlib.Decide.{ℕ-discrete}
+use mathlib.Core.Path.{_≡_, refl, sym, ap, _∙_}
+use mathlib.Core.Bool.{Bool, true, false, cond, true≢false}
+use mathlib.Core.List.{List, [], _∷_, _++_}
+use Rattle.rounds.specs.declared.Event.{Event}
+use Rattle.rounds.specs.declared.Event.the-variants.{Send, Receive, Step, Broadcast}
+use Rattle.rounds.specs.declared.Verdict.the-variants.{Accepted}
+use Rattle.rounds.specs.Limits.{mostEvents}
+use Rattle.rounds.specs.Run.{Control, Config}
+use Rattle.rounds.specs.Stages.{tick}
+use Rattle.rounds.specs.Verdicts.{accepted, sendVerdict, firstRefusal, verdict}
+use Rattle.rounds.specs.Events.{sendControl, receiveControl, stepControl, sendsControl, sendsContent, nextControl, nextContent, ifAccepted, applyControl, applyContent, apply}
+use Rattle.rounds.specs.Runs.{after, replay, replayVerdict, sends}
+use Rattle.rounds.specs.Claims.{Moment}
+use Rattle.rounds.proofs.Updates.{at-one}
+use Rattle.rounds.proofs.Answers.{accepted-is, is-accepted, none-refused, send-plain, broadcast-plain, allowed, allows}
+use Rattle.rounds.proofs.Broadcasts.{sends-size, sends-events, sends-round, sends-verdict, each-sends}
+
+pub after-append : (c : Config) (es fs : List Event) → after c (es ++ fs) ≡ after (after c es) fs
+unfolding after
+after-append c [] fs = refl
+after-append c (e ∷ es) fs = after-append (apply c e) es fs
+
+-- ---- one event
+abbrev both : Config → Event → Bool → Config
+both c e b =
+    record {
+      control = cond b (nextControl (c .control) e) (c .control);
+      content = cond b (nextContent (c .control) (c .content) e) (c .content);
+    }
+
+pub apply-accepted : (c : Config) (e : Event) → accepted (verdict (c .control) e) ≡ true
+    → apply c e ≡ record { control = nextControl (c .control) e; content = nextContent (c .control) (c .content) e }
+unfolding apply applyControl applyContent ifAccepted
+apply-accepted c e a = ap (both c e) a
+
+pub apply-refused : (c : Config) (e : Event) → accepted (verdict (c .control) e) ≡ false → apply c e ≡ c
+unfolding apply applyControl applyContent ifAccepted
+apply-refused c e a = ap (both c e) a
+
+-- ---- a broadcast
+module _ (c : Config) (p : ℕ) where
+  abbrev part : ℕ → Config
+  part k = record { control = sendsControl k (c .control) p; content = sendsContent k (c .control) (c .content) p }
+
+  -- the run of its sends to the processes below k, each of which is accepted
+  after-sends : (k : ℕ) → ((i : ℕ) → i < k → accepted (verdict (sendsControl i (c .control) p) (Send p i)) ≡ true) → after c (sends k p) ≡ part k
+  unfolding sends after sendsControl sendsContent nextControl nextContent
+  after-sends zero h = refl
+  after-sends (suc k) h =
+      after-append c (sends k p) (Send p k ∷ [])
+      ∙ ap (λ (d : Config). after d (Send p k ∷ [])) (after-sends k (λ i l. h i (omega arith)))
+      ∙ apply-accepted (part k) (Send p k) (h k (omega arith))
+
+  -- an accepted broadcast is its sends, one after the other
+  pub broadcast-sends : accepted (verdict (c .control) (Broadcast p)) ≡ true → apply c (Broadcast p) ≡ after c (sends (c .control .size) p)
+  unfolding nextControl nextContent
+  broadcast-sends a =
+      apply-accepted c (Broadcast p) a
+      ∙ sym (after-sends (c .control .size) (λ i l. accepted-is _ (allows (sendsControl i (c .control) p) (Send p i) (each-sends (c .control) p (allowed (c .control) (Broadcast p) a) i l))))
+
+-- ---- the replay
+-- where its verdict is Accepted, it is the run of all its events
+pub replay-whole : (c : Config) (es : List Event) → accepted (replayVerdict c es) ≡ true → replay c es ≡ after c es
+unfolding replay replayVerdict after ifAccepted
+replay-whole c [] a = refl
+replay-whole c (e ∷ es) a = go (accepted (verdict (c .control) e)) refl a (replay-whole (apply c e) es)
+  where
+    go : (b : Bool) → accepted (verdict (c .control) e) ≡ b → accepted (cond b (replayVerdict (apply c e) es) (verdict (c .control) e)) ≡ true
+        → (accepted (replayVerdict (apply c e) es) ≡ true → replay (apply c e) es ≡ after (apply c e) es)
+        → cond b (replay (apply c e) es) c ≡ after (apply c e) es
+    go true q z r = r z
+    go false q z r = absurd (true≢false (sym z ∙ q))
+
+replay-append : (c : Config) (es fs : List Event)
+    → replayVerdict c (es ++ fs) ≡ cond (accepted (replayVerdict c es)) (replayVerdict (after c es) fs) (replayVerdict c es)
+unfolding replayVerdict after ifAccepted
+replay-append c [] fs = sym (ap (λ (b : Bool). cond b (replayVerdict c fs) Accepted) (accepted-is Accepted refl))
+replay-append c (e ∷ es) fs = go (accepted (verdict (c .control) e)) refl (replay-append (apply c e) es fs)
+  where
+    go : (b : Bool) → accepted (verdict (c .control) e) ≡ b
+        → replayVerdict (apply c e) (es ++ fs) ≡ cond (accepted (replayVerdict (apply c e) es)) (replayVerdict (after (apply c e) es) fs) (replayVerdict (apply c e) es)
+        → cond b (replayVerdict (apply c e) (es ++ fs)) (verdict (c .control) e)
+        ≡ cond (accepted (cond b (replayVerdict (apply c e) es) (verdict (c .control) e))) (replayVerdict (after (apply c e) es) fs) (cond b (replayVerdict (apply c e) es) (verdict (c .control) e))
+    go true q ih = ih
+    go false q ih = sym (ap (λ (b : Bool). cond b (replayVerdict (after (apply c e) es) fs) (verdict (c .control) e)) q)
+
+-- one event alone
+replay-one : (c : Config) (e : Event) → replayVerdict c (e ∷ []) ≡ verdict (c .control) e
+unfolding replayVerdict ifAccepted
+replay-one c e = go (accepted (verdict (c .control) e)) refl
+  where
+    go : (b : Bool) → accepted (verdict (c .control) e) ≡ b → cond b Accepted (verdict (c .control) e) ≡ verdict (c .control) e
+    go true a = sym (is-accepted (verdict (c .control) e) a)
+    go false a = refl
+
+-- a broadcast of a process, with room for its events, is answered as the replay of its sends is: with the first of them that is refused
+module _ (c : Config) (p : ℕ) (who : p < c .control .size) (space : c .control .events + c .control .size ≤ mostEvents) where
+  answered : (i : ℕ) → i < c .control .size → verdict (sendsControl i (c .control) p) (Send p i) ≡ sendVerdict (c .control) p i
+  answered i h =
+      let size = sends-size i (c .control) p in
+      let events = sends-events i (c .control) p in
+      send-plain (sendsControl i (c .control) p) p i (omega arith) (omega arith) (omega arith) ∙ sends-verdict i (c .control) p i (omega arith)
+
+  sends-replay : (k : ℕ) → k ≤ c .control .size → replayVerdict c (sends k p) ≡ firstRefusal k (sendVerdict (c .control) p)
+  unfolding sends replayVerdict firstRefusal
+  sends-replay zero h = refl
+  sends-replay (suc k) h =
+      replay-append c (sends k p) (Send p k ∷ [])
+      ∙ rw (sends-replay k (omega arith)) (go (accepted (firstRefusal k (sendVerdict (c .control) p))) refl)
+    where
+      go : (b : Bool) → accepted (firstRefusal k (sendVerdict (c .control) p)) ≡ b
+          → cond b (replayVerdict (after c (sends k p)) (Send p k ∷ [])) (firstRefusal k (sendVerdict (c .control) p))
+          ≡ cond b (sendVerdict (c .control) p k) (firstRefusal k (sendVerdict (c .control) p))
+      go true a =
+          replay-one (after c (sends k p)) (Send p k)
+          ∙ ap (λ (d : Config). verdict (d .control) (Send p k))
+          (after-sends c p k (λ i l. ap accepted (answered i (omega arith)) ∙ none-refused k (sendVerdict (c .control) p) a i l))
+          ∙ answered k h
+      go false a = refl
+
+  pub broadcast-first : verdict (c .control) (Broadcast p) ≡ replayVerdict c (sends (c .control .size) p)
+  broadcast-first = broadcast-plain (c .control) p who space ∙ sym (sends-replay (c .control .size) (omega arith))
+
+-- ---- rounds rise one by one
+next-round : (c : Control) (e : Event) (x : ℕ) → nextControl c e .site x .round ≤ suc (c .site x .round)
+unfolding nextControl sendControl receiveControl stepControl tick
+next-round c (Send p q) x = at-one (λ k s. s .round ≤ suc (c .site k .round)) (c .site) p _ (omega arith) (λ k. omega arith) x
+next-round c (Receive p q) x = at-one (λ k s. s .round ≤ suc (c .site k .round)) (c .site) p _ (omega arith) (λ k. omega arith) x
+next-round c (Step p) x = at-one (λ k s. s .round ≤ suc (c .site k .round)) (c .site) p _ (omega arith) (λ k. omega arith) x
+next-round c (Broadcast p) x = let same = sends-round (c .size) c p x in omega arith
+
+apply-round : (c : Control) (e : Event) (x : ℕ) → applyControl c e .site x .round ≤ suc (c .site x .round)
+unfolding applyControl ifAccepted
+apply-round c e x = go (accepted (verdict c e))
+  where
+    go : (b : Bool) → cond b (nextControl c e) c .site x .round ≤ suc (c .site x .round)
+    go true = next-round c e x
+    go false = omega arith
+
+-- a round between that at the start and that at the end was x's round at some moment
+pub moment : (c : Config) (es : List Event) (x r : ℕ) → c .control .site x .round ≤ r → r ≤ after c es .control .site x .round → Moment c es x r
+unfolding after apply
+moment c [] x r low high = record { earlier = []; later = []; whole = refl; round = omega arith }
+moment c (e ∷ es) x r low high =
+    elim (ℕ-discrete (c .control .site x .round) r) [
+      | yes here ↦ record { earlier = []; later = e ∷ es; whole = refl; round = here }
+      | no there ↦ next (moment (apply c e) es x r (let rise = apply-round (c .control) e x in omega (arith, there)) high)
+    ]
+  where
+    next : Moment (apply c e) es x r → Moment c (e ∷ es) x r
+    next m = record { earlier = e ∷ m .earlier; later = m .later; whole = ap (λ (l : List Event). e ∷ l) (m .whole); round = m .round }

@@ -1,0 +1,68 @@
+-- What the statements about runs speak of: live messages, moments, how often a stage held, and openings that agree.
+-- Assumes nothing.
+use Prim.Native.Nat.{ℕ, zero, suc, _+_, _<_}
+use mathlib.Core.Path.{_≡_}
+use mathlib.Core.Bool.{true}
+use mathlib.Core.List.{List, [], _∷_, _++_}
+use Rattle.sets.specs.Sets.{has}
+use Rattle.rounds.specs.declared.Stage.{Stage}
+use Rattle.rounds.specs.declared.Stage.the-variants.{Sending, Collecting, Pending, Idle}
+use Rattle.rounds.specs.declared.Event.{Event}
+use Rattle.rounds.specs.declared.Event.the-variants.{Send, Receive, Step, Broadcast}
+use Rattle.rounds.specs.Run.{Control, Config, opening}
+use Rattle.rounds.specs.Stages.{stage, one}
+use Rattle.rounds.specs.Verdicts.{verdict}
+use Rattle.rounds.specs.Events.{sendsControl, ifAccepted, applyControl}
+use Rattle.rounds.specs.Runs.{after}
+
+-- ---- a run: n processes open with the values v, and then these events happen, those that are refused without effect
+abbrev pub ran : ℕ → (ℕ → ℕ) → List Event → Config
+ran n v es = after (opening n v) es
+
+-- ---- processes
+-- a set has all n of them
+abbrev pub Everyone : ℕ → ℕ → Type 0
+Everyone n s = (q : ℕ) → q < n → has s q ≡ true
+
+-- ---- messages
+-- a message for round r from q to p that p can still take or has taken this round
+pub data Live (c : Control) (p r q : ℕ) : Type 0 where
+  waiting : has (c .transit p r) q ≡ true → Live c p r q
+  taken : r ≡ c .site p .round → has (c .site p .heard) q ≡ true → Live c p r q
+
+-- ---- moments
+-- the events up to a moment at which p is at round r, and the events after it
+pub record Moment (c : Config) (es : List Event) (p r : ℕ) : Type 0 where
+  pub earlier : List Event
+  pub later : List Event
+  pub whole : earlier ++ later ≡ es
+  pub round : after c earlier .control .site p .round ≡ r
+
+-- the control parts just before each accepted event: of a broadcast, just before each of its sends to the processes below k
+unfoldable pub sendMoments : ℕ → Control → ℕ → List Control
+sendMoments zero c p = []
+sendMoments (suc k) c p = sendMoments k c p ++ (sendsControl k c p ∷ [])
+
+unfoldable pub eventMoments : Control → Event → List Control
+eventMoments c (Send p q) = c ∷ []
+eventMoments c (Receive p q) = c ∷ []
+eventMoments c (Step p) = c ∷ []
+eventMoments c (Broadcast p) = sendMoments (c .size) c p
+
+unfoldable pub moments : Control → List Event → List Control
+moments c [] = []
+moments c (e ∷ es) = ifAccepted (verdict c e) (eventMoments c e) [] ++ moments (applyControl c e) es
+
+-- at how many of them the process is at the stage
+unfoldable pub times : ℕ → Stage → List Control → ℕ
+times p s [] = 0
+times p s (c ∷ cs) = one (stage c p) s + times p s cs
+
+-- the four figures of a process together
+unfoldable pub total : (Stage → ℕ) → ℕ
+total f = f Sending + f Collecting + f Pending + f Idle
+
+-- ---- openings
+-- two of them agree on a set of processes
+abbrev pub Agree : (ℕ → ℕ) → (ℕ → ℕ) → ℕ → Type 0
+Agree v w s = (q : ℕ) → has s q ≡ true → v q ≡ w q

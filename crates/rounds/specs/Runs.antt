@@ -1,0 +1,54 @@
+-- Runs over a list of events, what they report, and the replay that stops at the first refusal.
+-- Assumes nothing.
+use Prim.Native.Nat.{ℕ, zero, suc}
+use mathlib.Core.List.{List, [], _∷_, _++_}
+use Rattle.rounds.specs.declared.Event.{Event}
+use Rattle.rounds.specs.declared.Event.the-variants.{Send, Receive, Step, Broadcast}
+use Rattle.rounds.specs.declared.Verdict.{Verdict}
+use Rattle.rounds.specs.declared.Verdict.the-variants.{Accepted}
+use Rattle.rounds.specs.Run.{Control, Config}
+use Rattle.rounds.specs.Verdicts.{verdict}
+use Rattle.rounds.specs.Events.{ifAccepted, apply}
+
+-- ---- all events, the refused ones without effect
+unfoldable pub after : Config → List Event → Config
+after c [] = c
+after c (e ∷ es) = after (apply c e) es
+
+unfoldable pub verdicts : Config → List Event → List Verdict
+verdicts c [] = []
+verdicts c (e ∷ es) = verdict (c .control) e ∷ verdicts (apply c e) es
+
+-- ---- the heard-of sets, one at each accepted step
+pub record Report : Type 0 where
+  pub process : ℕ
+  pub round : ℕ
+  pub heard : ℕ
+
+unfoldable pub reportOf : Control → ℕ → Report
+reportOf c p = record { process = p; round = c .site p .round; heard = c .site p .heard }
+
+-- what an accepted event reports
+unfoldable pub told : Control → Event → List Report
+told c (Send p q) = []
+told c (Receive p q) = []
+told c (Step p) = reportOf c p ∷ []
+told c (Broadcast p) = []
+
+unfoldable pub reports : Config → List Event → List Report
+reports c [] = []
+reports c (e ∷ es) = ifAccepted (verdict (c .control) e) (told (c .control) e) [] ++ reports (apply c e) es
+
+-- ---- the replay: it stops at the first refused event, with its verdict
+unfoldable pub replay : Config → List Event → Config
+replay c [] = c
+replay c (e ∷ es) = let r = replay (apply c e) es in ifAccepted (verdict (c .control) e) r c
+
+unfoldable pub replayVerdict : Config → List Event → Verdict
+replayVerdict c [] = Accepted
+replayVerdict c (e ∷ es) = let r = replayVerdict (apply c e) es in ifAccepted (verdict (c .control) e) r (verdict (c .control) e)
+
+-- ---- what a broadcast of p stands for: its sends to the processes below k, in ascending order
+unfoldable pub sends : ℕ → ℕ → List Event
+sends zero p = []
+sends (suc k) p = sends k p ++ (Send p k ∷ [])
