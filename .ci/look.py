@@ -1,7 +1,8 @@
 """What the gate looks at beside the proofs. Each look prints what it found amiss, and fails if that is anything.
 
 look.py public      every public function of every crate has no `requires` and at least one `ensures`
-look.py documents   every link in a document leads to a file, and a link [`NAME`](FILE) to a declaration of NAME in that file
+look.py documents   every link in a document leads to a file, and a link [`NAME`](FILE) to a declaration of NAME in that file;
+                    docs/STATEMENTS.md names every must-fail edit, as *LABEL*, and no other
 look.py assumed     no crate that calls no C function rests on an assumed contract, by what the check of each crate said last
 """
 
@@ -36,7 +37,7 @@ def public():
 
 
 def declares(text, name):
-    """Whether the text of a file declares the name: in antt, in Rattle, or as the label of an edit."""
+    """Whether the text of a file declares the name, in antt or in Rattle."""
     plain = re.escape(name)
     return re.search(
         rf"^\s*(?:unfoldable |abbrev )?(?:pub )?(?:record |data )?{plain}(?: \(.*\)| \{{.*\}})* :"
@@ -59,6 +60,12 @@ def documents():
             elif re.fullmatch(r"`[^`]+`", shown) and target.suffix in (".antt", ".rt"):
                 if not declares(target.read_text(), shown.strip("`")):
                     yield f"{where}: no such declaration there"
+    named = set(re.findall(r"\*([a-z0-9]+(?:_[a-z0-9]+)+)\*", (TOP / "docs" / "STATEMENTS.md").read_text()))
+    there = {edit.stem for edit in TOP.glob("crates/*/must-fail/*.edit")}
+    for label in sorted(there - named):
+        yield f"docs/STATEMENTS.md does not say what {label} is for"
+    for label in sorted(named - there):
+        yield f"docs/STATEMENTS.md names {label}, and there is no such edit"
 
 
 def assumed():

@@ -21,11 +21,11 @@ use Rattle.rounds.specs.Events.{sendControl, sendContent, apply}
 use Rattle.rounds.specs.Runs.{after, verdicts, Report, reports, replay, replayVerdict, sends}
 use Rattle.rounds.specs.Allowed.{Opens, Sends, Allowed}
 use Rattle.rounds.specs.Leads.{Leads, Reached}
-use Rattle.rounds.specs.Claims.{ran, Everyone, Live, Moment, moments, times, total, Agree}
+use Rattle.rounds.specs.Claims.{ran, Everyone, Live, Stop, Moment, moments, times, total, Agree}
 use Rattle.rounds.proofs.Answers.{accepted-is, refused-is, opens-right, right-opens, allowed, allows}
 use Rattle.rounds.proofs.Leading.{reached}
 use Rattle.rounds.proofs.Mail.{written-once}
-use Rattle.rounds.proofs.Running.{apply-refused, broadcast-sends, broadcast-first, replay-whole}
+use Rattle.rounds.proofs.Running.{apply-refused, broadcast-sends, broadcast-first, replay-whole, replay-stops}
 use Rattle.rounds.proofs.InRuns as run
 use Rattle.rounds.proofs.Independence.{same-control, same-verdicts, same-reports, same-holding}
 
@@ -60,6 +60,10 @@ broadcast-answer = broadcast-first
 -- a replay without a refusal is the run of all its events
 pub replay-is-run : (c : Config) (es : List Event) → replayVerdict c es ≡ Accepted → replay c es ≡ after c es
 replay-is-run c es a = replay-whole c es (accepted-is _ a)
+
+-- any other stops at its first refused event, with the verdict on that
+pub replay-stops-there : (c : Config) (es : List Event) → (replayVerdict c es ≡ Accepted → ⊥) → Stop c es
+replay-stops-there c es r = replay-stops c es (refused-is _ r)
 
 -- ---- the counts and the stages
 -- each count is the number of accepted events just before which the process was at that stage

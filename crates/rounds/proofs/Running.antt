@@ -15,7 +15,7 @@ use Rattle.rounds.specs.Stages.{tick}
 use Rattle.rounds.specs.Verdicts.{accepted, sendVerdict, firstRefusal, verdict}
 use Rattle.rounds.specs.Events.{sendControl, receiveControl, stepControl, sendsControl, sendsContent, nextControl, nextContent, ifAccepted, applyControl, applyContent, apply}
 use Rattle.rounds.specs.Runs.{after, replay, replayVerdict, sends}
-use Rattle.rounds.specs.Claims.{Moment}
+use Rattle.rounds.specs.Claims.{Stop, Moment}
 use Rattle.rounds.proofs.Updates.{at-one}
 use Rattle.rounds.proofs.Answers.{accepted-is, is-accepted, none-refused, send-plain, broadcast-plain, allowed, allows}
 use Rattle.rounds.proofs.Broadcasts.{sends-size, sends-events, sends-round, sends-verdict, each-sends}
@@ -75,6 +75,28 @@ replay-whole c (e ∷ es) a = go (accepted (verdict (c .control) e)) refl a (rep
         → cond b (replay (apply c e) es) c ≡ after (apply c e) es
     go true q z r = r z
     go false q z r = absurd (true≢false (sym z ∙ q))
+
+-- otherwise it stops at the first refused event, with its verdict, and is the run of the events before it
+pub replay-stops : (c : Config) (es : List Event) → accepted (replayVerdict c es) ≡ false → Stop c es
+unfolding replay replayVerdict after ifAccepted
+replay-stops c [] a = absurd (true≢false (sym (accepted-is Accepted refl) ∙ a))
+replay-stops c (e ∷ es) a = go (accepted (verdict (c .control) e)) refl a (replay-stops (apply c e) es)
+  where
+    go : (b : Bool) → accepted (verdict (c .control) e) ≡ b → accepted (cond b (replayVerdict (apply c e) es) (verdict (c .control) e)) ≡ false
+        → (accepted (replayVerdict (apply c e) es) ≡ false → Stop (apply c e) es) → Stop c (e ∷ es)
+    go true q z next =
+        let s = next z in
+        record {
+          earlier = e ∷ s .earlier;
+          refused = s .refused;
+          later = s .later;
+          whole = ap (λ (l : List Event). e ∷ l) (s .whole);
+          accepted = rw q (s .accepted);
+          answer = rw q (s .answer);
+          state = rw q (s .state);
+        }
+    go false q z next =
+        record { earlier = []; refused = e; later = es; whole = refl; accepted = refl; answer = rw q; state = rw q }
 
 replay-append : (c : Config) (es fs : List Event)
     → replayVerdict c (es ++ fs) ≡ cond (accepted (replayVerdict c es)) (replayVerdict (after c es) fs) (replayVerdict c es)

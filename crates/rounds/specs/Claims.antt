@@ -9,11 +9,12 @@ use Rattle.rounds.specs.declared.Stage.{Stage}
 use Rattle.rounds.specs.declared.Stage.the-variants.{Sending, Collecting, Pending, Idle}
 use Rattle.rounds.specs.declared.Event.{Event}
 use Rattle.rounds.specs.declared.Event.the-variants.{Send, Receive, Step, Broadcast}
+use Rattle.rounds.specs.declared.Verdict.the-variants.{Accepted}
 use Rattle.rounds.specs.Run.{Control, Config, opening}
 use Rattle.rounds.specs.Stages.{stage, one}
 use Rattle.rounds.specs.Verdicts.{verdict}
 use Rattle.rounds.specs.Events.{sendsControl, ifAccepted, applyControl}
-use Rattle.rounds.specs.Runs.{after}
+use Rattle.rounds.specs.Runs.{after, replay, replayVerdict}
 
 -- ---- a run: n processes open with the values v, and then these events happen, those that are refused without effect
 abbrev pub ran : ℕ → (ℕ → ℕ) → List Event → Config
@@ -37,6 +38,16 @@ pub record Moment (c : Config) (es : List Event) (p r : ℕ) : Type 0 where
   pub later : List Event
   pub whole : earlier ++ later ≡ es
   pub round : after c earlier .control .site p .round ≡ r
+
+-- where the replay of es stops: the events before it, all accepted; the one that is refused; and those that are never looked at
+pub record Stop (c : Config) (es : List Event) : Type 0 where
+  pub earlier : List Event
+  pub refused : Event
+  pub later : List Event
+  pub whole : earlier ++ (refused ∷ later) ≡ es
+  pub accepted : replayVerdict c earlier ≡ Accepted
+  pub answer : verdict (after c earlier .control) refused ≡ replayVerdict c es
+  pub state : replay c es ≡ after c earlier
 
 -- the control parts just before each accepted event: of a broadcast, just before each of its sends to the processes below k
 unfoldable pub sendMoments : ℕ → Control → ℕ → List Control

@@ -111,17 +111,17 @@ example1 =
     && eqb (c .control .events) 6 && noneRefused (numbers sevenAndFour trace1)
 
 -- 2: document 003's own, values 1, 1, 0 and heard sets {0,1}, {1,2}, {0,2}
-abbrev pub oneOneNone : List ℕ
-oneOneNone = 1 ∷ 1 ∷ 0 ∷ []
+abbrev pub oneOneZero : List ℕ
+oneOneZero = 1 ∷ 1 ∷ 0 ∷ []
 
 abbrev pub split : List Event
 split = roundOfThree (0 ∷ 1 ∷ []) (1 ∷ 2 ∷ []) (0 ∷ 2 ∷ [])
 
 unfoldable pub example2 : Bool
 example2 =
-    let c = run oneOneNone split in
+    let c = run oneOneZero split in
     votesAre c 0 1 (Present 1) Absent && votesAre c 1 0 Absent Absent && votesAre c 2 0 Absent Absent
-    && equal (steps oneOneNone split) (0 ∷ 1 ∷ 3 ∷ 1 ∷ 1 ∷ 6 ∷ 2 ∷ 1 ∷ 5 ∷ [])
+    && equal (steps oneOneZero split) (0 ∷ 1 ∷ 3 ∷ 1 ∷ 1 ∷ 6 ∷ 2 ∷ 1 ∷ 5 ∷ [])
 
 -- 3: then all hear all in rounds 2 to 4
 abbrev pub whole : List Event
@@ -129,8 +129,8 @@ whole = roundOfThree (0 ∷ 1 ∷ 2 ∷ []) (0 ∷ 1 ∷ 2 ∷ []) (0 ∷ 1 ∷ 
 
 unfoldable pub example3 : Bool
 example3 =
-    let c = run oneOneNone (split ++ whole) in
-    let d = run oneOneNone (split ++ whole ++ whole ++ whole) in
+    let c = run oneOneZero (split ++ whole) in
+    let d = run oneOneZero (split ++ whole ++ whole ++ whole) in
     votesAre c 0 1 Absent Absent && votesAre c 1 1 Absent Absent && votesAre c 2 1 Absent Absent
     && votesAre d 0 1 Absent (Present 1) && votesAre d 1 1 Absent (Present 1) && votesAre d 2 1 Absent (Present 1)
 
