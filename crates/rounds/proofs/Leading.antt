@@ -51,9 +51,9 @@ module _ {c₀ : Control} {d₀ : Content} where
   unfolding after apply reports
   onward l [] = unreported l
   onward {c = c} {d = d} {rs = rs} l (e ∷ es) =
-      subst
-      (λ (xs : List Report). Leads c₀ d₀ (after (apply (record { control = c; content = d }) e) es .control) (after (apply (record { control = c; content = d }) e) es .content) xs)
-      (append-assoc rs (ifAccepted (verdict c e) (told c e) []) (reports (apply (record { control = c; content = d }) e) es))
+      let next = apply (record { control = c; content = d }) e in
+      subst (λ (xs : List Report). Leads c₀ d₀ (after next es .control) (after next es .content) xs)
+      (append-assoc rs (ifAccepted (verdict c e) (told c e) []) (reports next es))
       (onward (apply-leads l e) es)
 
 -- what a configuration is after a list of events, it leads to

@@ -135,7 +135,8 @@ send-within c p q hp hq k =
       reach = at-one (λ x s. x < c .size → s .reach < 2 ^ c .size) (c .site) p _ (k .reach p) (k .reach);
       transit =
           cond-either (λ (T : ℕ → ℕ → ℕ). (x r : ℕ) → T x r < 2 ^ c .size) (timely (c .site p .round) (c .site q .round)) _ _
-          (λ e. at₂-one (λ x r t. t < 2 ^ c .size) (c .transit) q (c .site p .round) _ (with-below (c .size) _ p (k .transit q (c .site p .round)) hp) (k .transit))
+          (λ e. at₂-one (λ x r t. t < 2 ^ c .size) (c .transit) q (c .site p .round) _
+          (with-below (c .size) _ p (k .transit q (c .site p .round)) hp) (k .transit))
           (λ e. k .transit);
       carried =
           cond-either (λ (T : ℕ → ℕ → ℕ → ℕ). (x r y : ℕ) → T x r y < 2 ^ c .size) (timely (c .site p .round) (c .site q .round)) _ _
@@ -150,7 +151,9 @@ receive-within c p q hq k =
       sent = at-one (λ x s. s .sent < 2 ^ c .size) (c .site) p _ (k .sent p) (k .sent);
       heard = at-one (λ x s. s .heard < 2 ^ c .size) (c .site) p _ (with-below (c .size) (c .site p .heard) q (k .heard p) hq) (k .heard);
       reach = at-one (λ x s. x < c .size → s .reach < 2 ^ c .size) (c .site) p _ (k .reach p) (k .reach);
-      transit = at₂-one (λ x r t. t < 2 ^ c .size) (c .transit) p (c .site p .round) _ (without-below (c .size) _ q (k .transit p (c .site p .round))) (k .transit);
+      transit =
+          at₂-one (λ x r t. t < 2 ^ c .size) (c .transit) p (c .site p .round) _
+          (without-below (c .size) _ q (k .transit p (c .site p .round))) (k .transit);
       carried = k .carried;
     }
 

@@ -75,7 +75,8 @@ send-fresh c d p q k x r y l =
 receive-fresh : (c : Control) (d : Content) (p q : ℕ) → Receives c p q → Fresh c d → Fresh (receiveControl (tick c) p q) d
 unfolding receiveControl tick
 receive-fresh c d p q h k x r y l =
-    at-one (λ y s. Current c d x r y (d .mail x r y) (c .carried x r y) → r ≡ s .round → (d .mail x r y ≡ message (d .holding y)) × (c .carried x r y ≡ s .reach))
+    at-one
+    (λ y s. Current c d x r y (d .mail x r y) (c .carried x r y) → r ≡ s .round → (d .mail x r y ≡ message (d .holding y)) × (c .carried x r y ≡ s .reach))
     (c .site) p _ (λ o. o) (λ y o. o) y
     (claim-receive (Current c d) c d p q h k x r y l)
 
@@ -178,7 +179,9 @@ sent-stays p q r =
     record {
       send = λ c d a b h. at-one (λ z s. Told q r (c .site z) → Told q r s) (c .site) a _ (λ o. (o .0, λ e. with-kept _ b q (o .1 e))) (λ z o. o) p;
       receive = λ c d a b h. at-one (λ z s. Told q r (c .site z) → Told q r s) (c .site) a _ (λ o. o) (λ z o. o) p;
-      step = λ c d a h. at-one (λ z s. Told q r (c .site z) → Told q r s) (c .site) a _ (λ o. let come = o .0 in (omega arith, λ e. absurd (omega arith))) (λ z o. o) p;
+      step = λ c d a h.
+          at-one (λ z s. Told q r (c .site z) → Told q r s) (c .site) a _
+          (λ o. let come = o .0 in (omega arith, λ e. absurd (omega arith))) (λ z o. o) p;
     }
 
 sent-now : (c : Control) (p q : ℕ) → Told q (c .site p .round) (sendControl (tick c) p q .site p)

@@ -51,9 +51,15 @@ next-moves : (c : Control) (e : Event) → 0 < c .size → Allowed c e
     → ((x : ℕ) → nextControl c e .site x ≡ c .site x) → ((x r : ℕ) → nextControl c e .transit x r ≡ c .transit x r) → ⊥
 unfolding nextControl receiveControl stepControl tick
 next-moves c (Send p q) some h site transit =
-    true≢false (sym (with-own (c .site p .sent) q) ∙ ap (λ (s : ℕ). has s q) (sym (send-sent c p q) ∙ ap (λ (s : Site). s .sent) (site p)) ∙ h .may .unsent)
+    true≢false
+    (sym (with-own (c .site p .sent) q)
+    ∙ ap (λ (s : ℕ). has s q) (sym (send-sent c p q) ∙ ap (λ (s : Site). s .sent) (site p))
+    ∙ h .may .unsent)
 next-moves c (Receive p q) some h site transit =
-    true≢false (sym (h .waiting) ∙ ap (λ (s : ℕ). has s q) (sym (transit p (c .site p .round)) ∙ at₂-same (c .transit) p (c .site p .round) _) ∙ without-own _ q)
+    true≢false
+    (sym (h .waiting)
+    ∙ ap (λ (s : ℕ). has s q) (sym (transit p (c .site p .round)) ∙ at₂-same (c .transit) p (c .site p .round) _)
+    ∙ without-own _ q)
 next-moves c (Step p) some h site transit =
     let round = ap (λ (s : Site). s .round) (sym (at-same (c .site) p _) ∙ site p) in omega arith
 next-moves c (Broadcast p) some h site transit =

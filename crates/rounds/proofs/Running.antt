@@ -8,6 +8,7 @@ use mathlib.Core.Bool.{Bool, true, false, cond, true≢false}
 use mathlib.Core.List.{List, [], _∷_, _++_}
 use Rattle.rounds.specs.declared.Event.{Event}
 use Rattle.rounds.specs.declared.Event.the-variants.{Send, Receive, Step, Broadcast}
+use Rattle.rounds.specs.declared.Verdict.{Verdict}
 use Rattle.rounds.specs.declared.Verdict.the-variants.{Accepted}
 use Rattle.rounds.specs.Limits.{mostEvents}
 use Rattle.rounds.specs.Run.{Control, Config}
@@ -61,7 +62,10 @@ module _ (c : Config) (p : ℕ) where
   unfolding nextControl nextContent
   broadcast-sends a =
       apply-accepted c (Broadcast p) a
-      ∙ sym (after-sends (c .control .size) (λ i l. accepted-is _ (allows (sendsControl i (c .control) p) (Send p i) (each-sends (c .control) p (allowed (c .control) (Broadcast p) a) i l))))
+      ∙ sym (after-sends (c .control .size) each)
+    where
+      each : (i : ℕ) → i < c .control .size → accepted (verdict (sendsControl i (c .control) p) (Send p i)) ≡ true
+      each i l = accepted-is _ (allows _ (Send p i) (each-sends (c .control) p (allowed (c .control) (Broadcast p) a) i l))
 
 -- ---- the replay
 -- where its verdict is Accepted, it is the run of all its events
@@ -98,16 +102,19 @@ replay-stops c (e ∷ es) a = go (accepted (verdict (c .control) e)) refl a (rep
     go false q z next =
         record { earlier = []; refused = e; later = es; whole = refl; accepted = refl; answer = rw q; state = rw q }
 
-replay-append : (c : Config) (es fs : List Event)
-    → replayVerdict c (es ++ fs) ≡ cond (accepted (replayVerdict c es)) (replayVerdict (after c es) fs) (replayVerdict c es)
+-- one verdict, or what comes where that accepts
+abbrev thenVerdict : Verdict → Verdict → Verdict
+thenVerdict v next = cond (accepted v) next v
+
+replay-append : (c : Config) (es fs : List Event) → replayVerdict c (es ++ fs) ≡ thenVerdict (replayVerdict c es) (replayVerdict (after c es) fs)
 unfolding replayVerdict after ifAccepted
 replay-append c [] fs = sym (ap (λ (b : Bool). cond b (replayVerdict c fs) Accepted) (accepted-is Accepted refl))
 replay-append c (e ∷ es) fs = go (accepted (verdict (c .control) e)) refl (replay-append (apply c e) es fs)
   where
     go : (b : Bool) → accepted (verdict (c .control) e) ≡ b
-        → replayVerdict (apply c e) (es ++ fs) ≡ cond (accepted (replayVerdict (apply c e) es)) (replayVerdict (after (apply c e) es) fs) (replayVerdict (apply c e) es)
+        → replayVerdict (apply c e) (es ++ fs) ≡ thenVerdict (replayVerdict (apply c e) es) (replayVerdict (after (apply c e) es) fs)
         → cond b (replayVerdict (apply c e) (es ++ fs)) (verdict (c .control) e)
-        ≡ cond (accepted (cond b (replayVerdict (apply c e) es) (verdict (c .control) e))) (replayVerdict (after (apply c e) es) fs) (cond b (replayVerdict (apply c e) es) (verdict (c .control) e))
+        ≡ thenVerdict (cond b (replayVerdict (apply c e) es) (verdict (c .control) e)) (replayVerdict (after (apply c e) es) fs)
     go true q ih = ih
     go false q ih = sym (ap (λ (b : Bool). cond b (replayVerdict (after (apply c e) es) fs) (verdict (c .control) e)) q)
 

@@ -48,7 +48,10 @@ unfolding receiveControl tick at₂
 receive-once c p q k x r y =
     at-both (λ x s T. r ≡ s .round → has (s .heard) y ≡ true → has (T r) y ≡ true → ⊥) (c .site) (c .transit) p _ _
     (at-each (λ r t. r ≡ c .site p .round → has (with (c .site p .heard) q) y ≡ true → has t y ≡ true → ⊥) (c .transit p) (c .site p .round) _
-    (λ e t u. ⊎-elim (λ old. k p (c .site p .round) y refl old (without-was _ q y u)) (λ new. true≢false (sym u ∙ rw new (without-own _ q))) (with-cases _ q y t))
+    (λ e t u. ⊎-elim
+    (λ old. k p (c .site p .round) y refl old (without-was _ q y u))
+    (λ new. true≢false (sym u ∙ rw new (without-own _ q)))
+    (with-cases _ q y t))
     (λ r other e. absurd (other e)) r)
     (λ x. k x r y) x
 

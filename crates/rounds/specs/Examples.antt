@@ -54,7 +54,9 @@ noneRefused (k ∷ ks) = eqb k 0 && noneRefused ks
 -- a process's round, counts S, C, P, I and reach, as the `w` line has them
 abbrev pub waits : Config → ℕ → List ℕ
 waits c p =
-    c .control .site p .round ∷ c .control .count p Sending ∷ c .control .count p Collecting ∷ c .control .count p Pending ∷ c .control .count p Idle ∷ c .control .site p .reach ∷ []
+    let site = c .control .site p in
+    let count = c .control .count p in
+    site .round ∷ count Sending ∷ count Collecting ∷ count Pending ∷ count Idle ∷ site .reach ∷ []
 
 -- a process's value, vote and decision are these, as the `v` line has them
 abbrev pub votesAre : Config → ℕ → ℕ → Choice → Choice → Bool
@@ -266,7 +268,11 @@ atTheLimits =
 
 -- ---- all of them
 unfoldable pub starred : List Bool
+unfolding run numbers steps example1 example2 example3 example4 example5 example6 example7 example8 example9
 starred = example1 ∷ example2 ∷ example3 ∷ example4 ∷ example5 ∷ example6 ∷ example7 ∷ example8 ∷ example9 ∷ []
 
 unfoldable pub ours : List Bool
-ours = carriedReach ∷ carriedValue ∷ ownMessage ∷ lateMessage ∷ earlyMessage ∷ silentEven ∷ heardEveryone ∷ halfBroadcast ∷ refusalOrder ∷ atTheLimits ∷ []
+unfolding run numbers steps carriedReach carriedValue ownMessage lateMessage earlyMessage silentEven heardEveryone halfBroadcast refusalOrder atTheLimits
+ours =
+    carriedReach ∷ carriedValue ∷ ownMessage ∷ lateMessage ∷ earlyMessage ∷ silentEven ∷ heardEveryone ∷ halfBroadcast ∷ refusalOrder ∷ atTheLimits
+    ∷ []

@@ -48,7 +48,8 @@ pub same-members : (n a b : ℕ) → a < 2 ^ n → b < 2 ^ n → ((k : ℕ) → 
 same-members zero a b h g same = omega arith
 same-members (suc n) a b h g same =
     let high : a / 2 ≡ b / 2 =
-    same-members n (a / 2) (b / 2) (omega (arith, pow-suc 2 n)) (omega (arith, pow-suc 2 n)) (λ k l. sym (has-suc a k) ∙ same (suc k) (omega arith) ∙ has-suc b k)
+    same-members n (a / 2) (b / 2) (omega (arith, pow-suc 2 n)) (omega (arith, pow-suc 2 n))
+    (λ k l. sym (has-suc a k) ∙ same (suc k) (omega arith) ∙ has-suc b k)
     in
     let low : a % 2 ≡ b % 2 = same-digit (a % 2) (b % 2) (omega arith) (omega arith) (sym (has-zero a) ∙ same 0 (omega arith) ∙ has-zero b) in
     omega arith

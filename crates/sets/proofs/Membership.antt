@@ -33,7 +33,11 @@ digits P p q r t (suc zero) (suc (suc y)) h g = absurd (omega arith)
 digits P p q r t (suc (suc x)) y h g = absurd (omega arith)
 
 -- an operation on two sets that goes digit by digit, as `f` does on two tests
-digitwise : (op : ℕ → ℕ → ℕ) (f : Bool → Bool → Bool) → ((a b k : ℕ) → op a b / 2 ^ k ≡ op (a / 2 ^ k) (b / 2 ^ k)) → ((a b k : ℕ) → op a b % 2 ^ k ≡ op (a % 2 ^ k) (b % 2 ^ k)) → ((x y : ℕ) → x < 2 → y < 2 → eqb (op x y) 1 ≡ f (eqb x 1) (eqb y 1)) → (a b k : ℕ) → has (op a b) k ≡ f (has a k) (has b k)
+digitwise : (op : ℕ → ℕ → ℕ) (f : Bool → Bool → Bool)
+    → ((a b k : ℕ) → op a b / 2 ^ k ≡ op (a / 2 ^ k) (b / 2 ^ k))
+    → ((a b k : ℕ) → op a b % 2 ^ k ≡ op (a % 2 ^ k) (b % 2 ^ k))
+    → ((x y : ℕ) → x < 2 → y < 2 → eqb (op x y) 1 ≡ f (eqb x 1) (eqb y 1))
+    → (a b k : ℕ) → has (op a b) k ≡ f (has a k) (has b k)
 unfolding has
 digitwise op f high low digit a b k =
     ap (λ (x : ℕ). eqb (x % 2) 1) (high a b k)

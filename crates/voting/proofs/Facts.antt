@@ -32,7 +32,8 @@ least-some (c ∷ cs) y m = go (cases-cons m) (least-some cs y)
     later Absent w l = (w, refl, l)
     later (Present v) w l = (_, refl, omega arith)
 
-    go : (Present y ≡ c) ⊎ Among (Present y) cs → (Among (Present y) cs → (w : ℕ) × (least cs ≡ Present w) × (w ≤ y)) → (z : ℕ) × (lesser c (least cs) ≡ Present z) × (z ≤ y)
+    go : (Present y ≡ c) ⊎ Among (Present y) cs → (Among (Present y) cs → (w : ℕ) × (least cs ≡ Present w) × (w ≤ y))
+        → (z : ℕ) × (lesser c (least cs) ≡ Present z) × (z ≤ y)
     go (inl e) ih = rw (← e) (first (least cs))
     go (inr k) ih = rw (ih k .1) (later c (ih k .0) (ih k .2))
 
@@ -46,7 +47,8 @@ least-heard (Present y ∷ cs) x e = go (least cs) refl e (least-heard cs)
     either z (yes l) f m = let g : x ≡ y = omega arith in head (ap Present g)
     either z (no l) f m = let g : z ≡ x = omega arith in tail (rw g at m)
 
-    go : (d : Choice) → least cs ≡ d → lesser (Present y) d ≡ Present x → ((z : ℕ) → least cs ≡ Present z → Among (Present z) cs) → Among (Present x) (Present y ∷ cs)
+    go : (d : Choice) → least cs ≡ d → lesser (Present y) d ≡ Present x → ((z : ℕ) → least cs ≡ Present z → Among (Present z) cs)
+        → Among (Present x) (Present y ∷ cs)
     go Absent q f ih = head (sym f)
     go (Present z) q f ih = either z (decLe y z) (cc) (ih z q)
 
@@ -124,7 +126,8 @@ unfolding values
 value-some [] c a = absurd (not-nil a)
 value-some (m ∷ ms) c a = go (cases-cons a) (value-some ms c)
   where
-    go : (c ≡ Present (m .value)) ⊎ Among c (values ms) → (Among c (values ms) → (k : Message) × Among k ms × (c ≡ Present (k .value))) → (k : Message) × Among k (m ∷ ms) × (c ≡ Present (k .value))
+    go : (c ≡ Present (m .value)) ⊎ Among c (values ms) → (Among c (values ms) → (k : Message) × Among k ms × (c ≡ Present (k .value)))
+        → (k : Message) × Among k (m ∷ ms) × (c ≡ Present (k .value))
     go (inl e) ih = (m, head refl, e)
     go (inr n) ih = (ih n .0, tail (ih n .1), ih n .2)
 
@@ -143,7 +146,8 @@ unfolding votes
 vote-heard [] c a = absurd (not-nil a)
 vote-heard (m ∷ ms) c a = go (cases-cons a) (vote-heard ms c)
   where
-    go : (c ≡ m .vote) ⊎ Among c (votes ms) → (Among c (votes ms) → (k : Message) × Among k ms × (k .vote ≡ c)) → (k : Message) × Among k (m ∷ ms) × (k .vote ≡ c)
+    go : (c ≡ m .vote) ⊎ Among c (votes ms) → (Among c (votes ms) → (k : Message) × Among k ms × (k .vote ≡ c))
+        → (k : Message) × Among k (m ∷ ms) × (k .vote ≡ c)
     go (inl e) ih = (m, head refl, sym e)
     go (inr n) ih = (ih n .0, tail (ih n .1), ih n .2)
 
@@ -216,7 +220,8 @@ module _ (r : ℕ) (h : Holding) (ms : List Message) (o : odd r ≡ false) where
   even-vote = rw even-is
 
   -- the least vote heard: at most each vote heard, and the vote of a message heard
-  pub even-value-vote : {m : Message} {y : ℕ} → Among m ms → m .vote ≡ Present y → (rule r h ms .value ≤ y) × ((k : Message) × Among k ms × (k .vote ≡ Present (rule r h ms .value)))
+  pub even-value-vote : {m : Message} {y : ℕ} → Among m ms → m .vote ≡ Present y
+      → (rule r h ms .value ≤ y) × ((k : Message) × Among k ms × (k .vote ≡ Present (rule r h ms .value)))
   unfolding evenRule valueOr
   even-value-vote {y = y} n v =
       let s = least-some (votes ms) y (heard-vote-of n v) in
@@ -232,7 +237,8 @@ module _ (r : ℕ) (h : Holding) (ms : List Message) (o : odd r ≡ false) where
           absurd (absent-present (sym (plain (k .0) (k .1)) ∙ k .2))
 
   -- the least value heard: at most each value heard, and the value of a message heard
-  pub even-value-plain : {m : Message} → Among m ms → ((k : Message) → Among k ms → k .vote ≡ Absent) → (rule r h ms .value ≤ m .value) × ((k : Message) × Among k ms × (rule r h ms .value ≡ k .value))
+  pub even-value-plain : {m : Message} → Among m ms → ((k : Message) → Among k ms → k .vote ≡ Absent)
+      → (rule r h ms .value ≤ m .value) × ((k : Message) × Among k ms × (rule r h ms .value ≡ k .value))
   unfolding evenRule valueOr
   even-value-plain {m} n plain =
       rw (even-is, no-least plain) (least-value-below ms m (h .value) n, least-value-heard ms m (h .value) n)

@@ -142,8 +142,10 @@ tally-more m ms = refl
 pub hear-swap : (t : Tally) (m k : Message) → hear (hear t m) k ≡ hear (hear t k) m
 unfolding hear
 hear-swap t m k =
+    let x = Present (m .value) in
+    let y = Present (k .value) in
     rw
-    (lesser-last (t .least) (Present (m .value)) (Present (k .value)), joined-last (t .values) (Present (m .value)) (Present (k .value)), lesser-last (t .«least_vote») (m .vote) (k .vote), joined-last (t .votes) (m .vote) (k .vote))
+    (lesser-last (t .least) x y, joined-last (t .values) x y, lesser-last (t .«least_vote») (m .vote) (k .vote), joined-last (t .votes) (m .vote) (k .vote))
 
 pub tally-last : (ms : List Message) (m : Message) → tally (ms ++ (m ∷ [])) ≡ hear (tally ms) m
 unfolding tally
@@ -155,5 +157,6 @@ pub hear-meaning : {t : Tally} (m : Message) {r : Tally} → r ≡ hear t m → 
 unfolding tally
 hear-meaning m e = (e, λ ms f. e ∙ ap (λ t. hear t m) f)
 
-pub rule-meaning : (n : ℕ) (h : Holding) {t : Tally} {r : Holding} → r ≡ ruled n h t → (r ≡ ruled n h t) × ((ms : List Message) → t ≡ tally ms → r ≡ rule n h ms)
+pub rule-meaning : (n : ℕ) (h : Holding) {t : Tally} {r : Holding} → r ≡ ruled n h t
+    → (r ≡ ruled n h t) × ((ms : List Message) → t ≡ tally ms → r ≡ rule n h ms)
 rule-meaning n h e = (e, λ ms f. e ∙ ap (ruled n h) f ∙ rule-tally n h ms)
