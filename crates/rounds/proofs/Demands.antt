@@ -24,7 +24,7 @@ use Rattle.rounds.specs.Leads.{Leads, Reached}
 use Rattle.rounds.specs.Claims.{ran, Everyone, Live, Stop, Moment, moments, times, total, Agree}
 use Rattle.rounds.proofs.Answers.{accepted-is, refused-is, opens-right, right-opens, allowed, allows}
 use Rattle.rounds.proofs.Leading.{reached}
-use Rattle.rounds.proofs.Mail.{written-once}
+use Rattle.rounds.proofs.Live.{written-once}
 use Rattle.rounds.proofs.Running.{apply-refused, broadcast-sends, broadcast-first, replay-whole, replay-stops}
 use Rattle.rounds.proofs.InRuns as run
 use Rattle.rounds.proofs.Independence.{same-control, same-verdicts, same-reports, same-holding}

@@ -21,8 +21,8 @@ use Rattle.rounds.proofs.Limits.{size-stays, rounds-kept, events-kept, 
 use Rattle.rounds.proofs.Lead.{led-kept, open-led}
 use Rattle.rounds.proofs.Counts.{counts, total-kept}
 use Rattle.rounds.proofs.Reach.{reach-grows, own-reach}
-use Rattle.rounds.proofs.Live.{live-from, open-silent}
-use Rattle.rounds.proofs.Mail.{spoken-fresh, mail-true, not-live}
+use Rattle.rounds.proofs.Live.{not-live, open-silent, live-from}
+use Rattle.rounds.proofs.Mail.{spoken-fresh, mail-true}
 use Rattle.rounds.proofs.Table.{Once, once-kept, open-once, at-sending, at-collecting, at-pending, at-idle}
 use Rattle.rounds.proofs.Running.{after-append, moment}
 
@@ -115,7 +115,7 @@ module _ (n : ℕ) (v : ℕ → ℕ) (es : List Event) where
       moment (opening n v) es y r (omega arith) (spoken-fresh n v (reached n v es) .0 x r y l .0)
 
   pub not-live-in : (p q : ℕ) → Live now q (now .site p .round) p → Sends now p q → ⊥
-  not-live-in p q l h = not-live n v (reached n v es) p q h l
+  not-live-in p q l h = not-live now p q (spoken-fresh n v (reached n v es) .0) h l
 
 pub mail-in : (n : ℕ) (v : ℕ → ℕ) (es : List Event) (x r y : ℕ) → Live (ran n v es .control) x r y
     → (earlier later : List Event) → earlier ++ later ≡ es → ran n v earlier .control .site y .round ≡ r

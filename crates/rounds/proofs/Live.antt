@@ -1,21 +1,24 @@
--- Which messages are live, in transit or heard this round, after each event; and that a live message is one that its sender has sent.
--- Assumes nothing.
+-- Which messages are live, in transit or heard this round, after each event; that a live message is one that its sender has sent; and that no
+-- message is written twice. Assumes nothing.
 use Prim.Native.Nat.{ℕ, suc, _≤_}
 use native.Mathlib.Omega.{arith}
-use mathlib.Core.Path.{_≡_, refl}
+use mathlib.Core.Path.{_≡_, refl, sym, _∙_}
 use mathlib.Core.Logic.{_⊎_, inl, inr, ⊎-elim}
-use mathlib.Core.Bool.{true}
+use mathlib.Core.Bool.{true, true≢false}
+use mathlib.Core.List.{List}
 use lib.Dec.{ltb}
 use Rattle.sets.specs.Sets.{empty, has}
 use Rattle.sets.proofs.Membership.{with-cases, with-own, with-kept, without-was, empty-none}
-use Rattle.rounds.specs.Run.{Site, Control, openControl}
+use Rattle.rounds.specs.Run.{Site, Control, Content, openControl}
 use Rattle.rounds.specs.Stages.{tick}
-use Rattle.rounds.specs.Events.{timely, sendControl, receiveControl, from, stepControl}
-use Rattle.rounds.specs.Allowed.{Receives}
+use Rattle.rounds.specs.Events.{timely, sendControl, sendContent, receiveControl, from, stepControl}
+use Rattle.rounds.specs.Runs.{Report}
+use Rattle.rounds.specs.Allowed.{Sends, Receives}
+use Rattle.rounds.specs.Leads.{Leads}
 use Rattle.rounds.specs.Claims.{Live}
 use Rattle.rounds.specs.Claims.Live.{waiting, taken}
-use Rattle.rounds.proofs.Updates.{at-one, at-each, at₂-one, cond-either}
-use Rattle.rounds.proofs.Kept.{Kept}
+use Rattle.rounds.proofs.Updates.{at-one, at-same, at₂-one, cond-either}
+use Rattle.rounds.proofs.Kept.{Kept, kept}
 use Rattle.rounds.proofs.Limits.{Window, in-window}
 
 -- ---- what is live after an event
@@ -89,44 +92,50 @@ module _ (c : Control) (p : ℕ) where
   live-step x r y (waiting t) = left x r y t
   live-step x r y (taken e t) = unheard x r y e t
 
--- ---- a live message is one that its sender has sent: for an earlier round of its sender's, or for the present one to a process in its sent set
-abbrev Sent : ℕ → ℕ → Site → Type 0
+-- ---- what is sent stays sent
+-- a site has sent to x for round r: that round is over, or it is the present one and x is in the sent set
+abbrev pub Sent : ℕ → ℕ → Site → Type 0
 Sent x r s = (r ≤ s .round) × (r ≡ s .round → has (s .sent) x ≡ true)
 
-abbrev pub Spoken : Control → Type 0
-Spoken c = (x r y : ℕ) → Live c x r y → (r ≤ c .site y .round) × (r ≡ c .site y .round → has (c .site y .sent) x ≡ true)
+sent-kept : (x r y : ℕ) → Kept (λ c d. Sent x r (c .site y))
+unfolding sendControl receiveControl stepControl tick
+sent-kept x r y =
+    record {
+      send = λ c d p q h. at-one (λ z s. Sent x r (c .site z) → Sent x r s) (c .site) p _ (λ o. (o .0, λ e. with-kept _ q x (o .1 e))) (λ z o. o) y;
+      receive = λ c d p q h. at-one (λ z s. Sent x r (c .site z) → Sent x r s) (c .site) p _ (λ o. o) (λ z o. o) y;
+      step = λ c d p h.
+          at-one (λ z s. Sent x r (c .site z) → Sent x r s) (c .site) p _
+          (λ o. let most = o .0 in (omega arith, λ e. absurd (omega arith))) (λ z o. o) y;
+    }
 
-send-spoken : (c : Control) (p q : ℕ) → Spoken c → Spoken (sendControl (tick c) p q)
+sent-now : (c : Control) (p q : ℕ) → Sent q (c .site p .round) (sendControl (tick c) p q .site p)
 unfolding sendControl tick
-send-spoken c p q k x r y l = ⊎-elim (λ old. grown y (k x r y old)) (λ new. posted new) (live-send c p q x r y l)
-  where
-    grown : (y : ℕ) → Sent x r (c .site y) → Sent x r (sendControl (tick c) p q .site y)
-    grown = at-one (λ y s. Sent x r (c .site y) → Sent x r s) (c .site) p _ (λ o. (o .0, λ e. with-kept _ q x (o .1 e))) (λ y o. o)
+sent-now c p q = rw (at-same (c .site) p _) (omega arith, λ e. with-own _ q)
 
-    posted : Posted c p q x r y → Sent x r (sendControl (tick c) p q .site y)
-    posted n =
-        at-each (λ y s. y ≡ p → Sent x r s) (c .site) p _
-        (λ e. let same = n .round in (omega arith, λ f. rw (n .receiver) (with-own _ q)))
-        (λ y other e. absurd (other e)) y (n .sender)
+-- so after p has sent to q, at all that this leads to it may not send to q again before its next round
+pub written-once : (c : Control) (d : Content) {c₁ : Control} {d₁ : Content} {rs : List Report} (p q : ℕ)
+    → Leads (sendControl (tick c) p q) (sendContent c d p q) c₁ d₁ rs → c₁ .site p .round ≡ c .site p .round → Sends c₁ p q → ⊥
+written-once c d p q l e h = true≢false (sym (kept _ (sent-kept q (c .site p .round) p) l (sent-now c p q) .1 (sym e)) ∙ h .may .unsent)
 
-receive-spoken : (c : Control) (p q : ℕ) → Receives c p q → Spoken c → Spoken (receiveControl (tick c) p q)
-unfolding receiveControl tick
-receive-spoken c p q h k x r y l =
-    at-one (λ y s. Sent x r (c .site y) → Sent x r s) (c .site) p _ (λ o. o) (λ y o. o) y (k x r y (live-receive c p q h x r y l))
+-- ---- a live message is one that its sender has sent
+abbrev pub Spoken : Control → Type 0
+Spoken c = (x r y : ℕ) → Live c x r y → Sent x r (c .site y)
 
-step-spoken : (c : Control) (p : ℕ) → Spoken c → Spoken (stepControl (tick c) p)
-unfolding stepControl tick
-step-spoken c p k x r y l =
-    at-one (λ y s. Sent x r (c .site y) → Sent x r s) (c .site) p _ (λ o. let most = o .0 in (omega arith, λ e. absurd (omega arith))) (λ y o. o)
-    y (k x r y (live-step c p x r y l))
+posted-sent : (c : Control) (p q x r y : ℕ) → Posted c p q x r y → Sent x r (sendControl (tick c) p q .site y)
+posted-sent c p q x r y m = rw (m .receiver, m .round, m .sender) (sent-now c p q)
 
 pub spoken-kept : Kept (λ c d. Spoken c)
 spoken-kept =
     record {
-      send = λ c d p q h k. send-spoken c p q k;
-      receive = λ c d p q h k. receive-spoken c p q h k;
-      step = λ c d p h k. step-spoken c p k;
+      send = λ c d p q h k x r y l.
+          ⊎-elim (λ old. sent-kept x r y .send c d p q h (k x r y old)) (posted-sent c p q x r y) (live-send c p q x r y l);
+      receive = λ c d p q h k x r y l. sent-kept x r y .receive c d p q h (k x r y (live-receive c p q h x r y l));
+      step = λ c d p h k x r y l. sent-kept x r y .step c d p h (k x r y (live-step c p x r y l));
     }
+
+-- so what may be sent is not live
+pub not-live : (c : Control) (p q : ℕ) → Spoken c → Sends c p q → Live c q (c .site p .round) p → ⊥
+not-live c p q spoken h l = true≢false (sym (spoken q (c .site p .round) p l .1 refl) ∙ h .may .unsent)
 
 -- nothing is live at the opening
 pub open-silent : (n x r y : ℕ) → Live (openControl n) x r y → ⊥

@@ -1,13 +1,11 @@
--- Mail is true: a live message carries what its sender held in the round for which it was sent, at every moment of that round; and no
--- message is written twice. Assumes nothing.
+-- Mail is true: a live message carries what its sender held in the round for which it was sent, at every moment of that round.
+-- Assumes nothing.
 use Prim.Native.Nat.{ℕ, _≤_}
 use native.Mathlib.Omega.{arith}
 use mathlib.Core.Path.{_≡_, refl, sym, ap, _∙_, subst}
 use mathlib.Core.Logic.{_⊎_, ⊎-elim}
 use mathlib.Core.Bool.{Bool, true, false, cond, true≢false}
 use mathlib.Core.List.{List}
-use Rattle.sets.specs.Sets.{has}
-use Rattle.sets.proofs.Membership.{with-own, with-kept}
 use Rattle.voting.specs.declared.Message.{Message}
 use Rattle.voting.specs.declared.Holding.{Holding}
 use Rattle.voting.specs.Voting.{message}
@@ -15,10 +13,10 @@ use Rattle.rounds.specs.Run.{Site, Control, Content, at₃}
 use Rattle.rounds.specs.Stages.{tick}
 use Rattle.rounds.specs.Events.{timely, sendControl, sendContent, receiveControl, stepControl, stepContent}
 use Rattle.rounds.specs.Runs.{Report}
-use Rattle.rounds.specs.Allowed.{Sends, Receives}
+use Rattle.rounds.specs.Allowed.{Receives}
 use Rattle.rounds.specs.Leads.{Leads, Reached}
 use Rattle.rounds.specs.Claims.{Live}
-use Rattle.rounds.proofs.Updates.{at-one, at-both, at-same, at₃-each-both}
+use Rattle.rounds.proofs.Updates.{at-one, at-both, at₃-each-both}
 use Rattle.rounds.proofs.Kept.{Kept, kept}
 use Rattle.rounds.proofs.Live.{Posted, live-send, live-receive, live-step, Spoken, spoken-kept, open-silent}
 
@@ -162,33 +160,3 @@ mail-true n v {c₁ = c₁} {d₁ = d₁} reached leads x y l =
     now x′ r y′ m e f =
         subst (λ (z : ℕ). (d₁ .mail x′ r y′ ≡ message (d₁ .holding z)) × (c₁ .carried x′ r y′ ≡ c₁ .site z .reach)) e
         (spoken-fresh n v reached .1 x′ r y′ m (f ∙ ap (λ (z : ℕ). c₁ .site z .round) (sym e)))
-
--- ---- no message is written twice
--- what may be sent is not live
-pub not-live : (n : ℕ) (v : ℕ → ℕ) {c : Control} {d : Content} {rs : List Report} → Reached n v c d rs
-    → (p q : ℕ) → Sends c p q → Live c q (c .site p .round) p → ⊥
-not-live n v reached p q h l = true≢false (sym (spoken-fresh n v reached .0 q _ p l .1 refl) ∙ h .may .unsent)
-
-abbrev Told : ℕ → ℕ → Site → Type 0
-Told q r s = (r ≤ s .round) × (s .round ≡ r → has (s .sent) q ≡ true)
-
--- who has sent to q in round r has q in its sent set as long as the round lasts
-sent-stays : (p q r : ℕ) → Kept (λ c d. Told q r (c .site p))
-unfolding sendControl receiveControl stepControl tick
-sent-stays p q r =
-    record {
-      send = λ c d a b h. at-one (λ z s. Told q r (c .site z) → Told q r s) (c .site) a _ (λ o. (o .0, λ e. with-kept _ b q (o .1 e))) (λ z o. o) p;
-      receive = λ c d a b h. at-one (λ z s. Told q r (c .site z) → Told q r s) (c .site) a _ (λ o. o) (λ z o. o) p;
-      step = λ c d a h.
-          at-one (λ z s. Told q r (c .site z) → Told q r s) (c .site) a _
-          (λ o. let come = o .0 in (omega arith, λ e. absurd (omega arith))) (λ z o. o) p;
-    }
-
-sent-now : (c : Control) (p q : ℕ) → Told q (c .site p .round) (sendControl (tick c) p q .site p)
-unfolding sendControl tick
-sent-now c p q = rw (at-same (c .site) p _) (omega arith, λ e. with-own _ q)
-
--- after p has sent to q, it may not send to q again before its next round
-pub written-once : (c : Control) (d : Content) {c₁ : Control} {d₁ : Content} {rs : List Report} (p q : ℕ)
-    → Leads (sendControl (tick c) p q) (sendContent c d p q) c₁ d₁ rs → c₁ .site p .round ≡ c .site p .round → Sends c₁ p q → ⊥
-written-once c d p q l e h = true≢false (sym (kept _ (sent-stays p q (c .site p .round)) l (sent-now c p q) .1 e) ∙ h .may .unsent)

@@ -19,7 +19,7 @@ use Rattle.rounds.specs.Claims.Live.{taken}
 use Rattle.rounds.proofs.Updates.{at-one, at-each, at-both, at₂-one, cond-either}
 use Rattle.rounds.proofs.Kept.{Kept}
 use Rattle.rounds.proofs.Limits.{Within}
-use Rattle.rounds.proofs.Live.{Spoken, spoken-kept}
+use Rattle.rounds.proofs.Live.{Spoken, spoken-kept, not-live}
 
 -- ---- what is heard is not in transit
 abbrev pub Once : Control → Type 0
@@ -32,7 +32,7 @@ send-once c p q h spoken k x r y =
     (there p r y) (λ x. there x r y) x
   where
     again : (y : ℕ) → c .site p .round ≡ c .site q .round → has (c .site q .heard) y ≡ true → y ≡ p → ⊥
-    again y e t f = true≢false (sym (spoken q (c .site p .round) p (taken e (rw f at t)) .1 refl) ∙ h .may .unsent)
+    again y e t f = not-live c p q spoken h (taken e (rw f at t))
 
     there : (x r y : ℕ) → r ≡ c .site x .round → has (c .site x .heard) y ≡ true → has (sendControl (tick c) p q .transit x r) y ≡ true → ⊥
     there =
