@@ -49,7 +49,7 @@ unfolding refuse
 passed true v rest n y = absurd (true≢false (sym y ∙ n))
 passed false v rest n y = (refl, y)
 
-pub pass : (b : Bool) (v rest : Verdict) → b ≡ false → refuse b v rest ≡ rest
+pass : (b : Bool) (v rest : Verdict) → b ≡ false → refuse b v rest ≡ rest
 unfolding refuse
 pass b v rest e = rw e
 
@@ -57,7 +57,7 @@ neither : (a b : Bool) → (a || b) ≡ false → (a ≡ false) × (b ≡ false)
 neither true b e = absurd (true≢false e)
 neither false b e = (refl, e)
 
-pub or-neither : (a b : Bool) → a ≡ false → b ≡ false → (a || b) ≡ false
+or-neither : (a b : Bool) → a ≡ false → b ≡ false → (a || b) ≡ false
 or-neither true b e f = e
 or-neither false b e f = f
 
@@ -65,7 +65,7 @@ inside : (c : Control) (p : ℕ) → outside c p ≡ false → p < c .size
 unfolding outside
 inside c p e = leb-false (c .size) p e
 
-pub within : (c : Control) (p : ℕ) → p < c .size → outside c p ≡ false
+within : (c : Control) (p : ℕ) → p < c .size → outside c p ≡ false
 unfolding outside
 within c p h = lt-leb (c .size) p h
 
@@ -73,7 +73,7 @@ roomy : (c : Control) (k : ℕ) → crowded c k ≡ false → c .events + k ≤ 
 unfolding crowded
 roomy c k e = ltb-false mostEvents (c .events + k) e
 
-pub room : (c : Control) (k : ℕ) → c .events + k ≤ mostEvents → crowded c k ≡ false
+room : (c : Control) (k : ℕ) → c .events + k ≤ mostEvents → crowded c k ≡ false
 unfolding crowded
 room c k h = le-ltb mostEvents (c .events + k) h
 
@@ -98,7 +98,7 @@ right-opens n given h =
     ∙ pass _ WrongCount _ (ap not (eq-eqb given n (h .each)))
 
 -- ---- accepted, so allowed
-pub may-send : (c : Control) (p q : ℕ) → accepted (sendVerdict c p q) ≡ true → MaySend c p q
+may-send : (c : Control) (p q : ℕ) → accepted (sendVerdict c p q) ≡ true → MaySend c p q
 unfolding sendVerdict ahead accepted numberOf
 may-send c p q e =
     let a = passed _ AlreadySent _ refl e in
@@ -147,7 +147,7 @@ allowed c (Broadcast p) e =
     }
 
 -- ---- allowed, so accepted
-pub send-may : (c : Control) (p q : ℕ) → MaySend c p q → sendVerdict c p q ≡ Accepted
+send-may : (c : Control) (p q : ℕ) → MaySend c p q → sendVerdict c p q ≡ Accepted
 unfolding sendVerdict ahead
 send-may c p q m = pass _ AlreadySent _ (m .unsent) ∙ pass _ TooFarAhead _ (ne-eqb _ _ (m .near))
 
@@ -157,7 +157,7 @@ all-accepted zero f h = refl
 all-accepted (suc n) f h = rw (all-accepted n f (λ k l. h k (omega arith))) (h n (omega arith))
 
 -- the tests 2 and 8, passed
-pub first-two : (b : Bool) (c : Control) (k : ℕ) (rest : Verdict) → b ≡ false → c .events + k ≤ mostEvents
+first-two : (b : Bool) (c : Control) (k : ℕ) (rest : Verdict) → b ≡ false → c .events + k ≤ mostEvents
     → refuse b NoProcess (refuse (crowded c k) TooManyEvents rest) ≡ rest
 first-two b c k rest e h = pass b NoProcess _ e ∙ pass (crowded c k) TooManyEvents rest (room c k h)
 

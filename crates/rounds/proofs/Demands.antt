@@ -6,26 +6,28 @@ use mathlib.Core.Path.{_≡_}
 use mathlib.Core.Logic.{_↔_}
 use mathlib.Core.Bool.{true, false}
 use mathlib.Core.List.{List, _++_}
-use Rattle.sets.specs.Sets.{has}
-use Rattle.voting.specs.Voting.{message}
+use Rattle.sets.specs.Sets.{has, members}
+use Rattle.voting.specs.declared.Message.{Message}
+use Rattle.voting.specs.Voting.{message, rule}
 use Rattle.rounds.specs.declared.Stage.{Stage}
 use Rattle.rounds.specs.declared.Stage.the-variants.{Sending, Collecting, Pending, Idle}
 use Rattle.rounds.specs.declared.Event.{Event}
-use Rattle.rounds.specs.declared.Event.the-variants.{Broadcast}
+use Rattle.rounds.specs.declared.Event.the-variants.{Send, Step, Broadcast}
 use Rattle.rounds.specs.declared.Verdict.the-variants.{Accepted}
 use Rattle.rounds.specs.Limits.{window, lastRound, mostEvents}
 use Rattle.rounds.specs.Run.{Control, Content, Config, openControl, opening}
 use Rattle.rounds.specs.Stages.{stage, tick}
 use Rattle.rounds.specs.Verdicts.{openVerdict, verdict}
-use Rattle.rounds.specs.Events.{sendControl, sendContent, apply}
+use Rattle.rounds.specs.Events.{sendControl, sendContent, gathered, messages, apply}
 use Rattle.rounds.specs.Runs.{after, verdicts, Report, reports, replay, replayVerdict, sends}
 use Rattle.rounds.specs.Allowed.{Opens, Sends, Allowed}
 use Rattle.rounds.specs.Leads.{Leads, Reached}
-use Rattle.rounds.specs.Claims.{ran, Everyone, Live, Stop, Moment, moments, times, total, Agree}
+use Rattle.rounds.specs.Claims.{ran, Everyone, Live, Stop, Moment, Had, moments, times, total, Agree}
 use Rattle.rounds.proofs.Answers.{accepted-is, refused-is, opens-right, right-opens, allowed, allows}
 use Rattle.rounds.proofs.Leading.{reached}
 use Rattle.rounds.proofs.Live.{written-once}
 use Rattle.rounds.proofs.Running.{apply-refused, broadcast-sends, broadcast-first, replay-whole, replay-stops}
+use Rattle.rounds.proofs.Effects.{posts-kept, posts-late}
 use Rattle.rounds.proofs.InRuns as run
 use Rattle.rounds.proofs.Independence.{same-control, same-verdicts, same-reports, same-holding}
 
@@ -95,6 +97,8 @@ stages-table n v es p =
 pub record InLimits (n : ℕ) (c : Control) : Type 0 where
   -- the lead is at most 8, and so, either way round, from -8 to 8
   pub lead : (p q : ℕ) → p < n → q < n → c .site p .round ≤ c .site q .round + window
+  -- and below 8 over those sent to this round: the refusals 3 and 4 never both apply
+  pub spoken : (p q : ℕ) → p < n → q < n → has (c .site p .sent) q ≡ true → c .site p .round < c .site q .round + window
   -- what is in transit to p is for its own round or the seven after it
   pub near : (p r q : ℕ) → has (c .transit p r) q ≡ true → (c .site p .round ≤ r) × (r < c .site p .round + window)
   pub rounds : (p : ℕ) → (1 ≤ c .site p .round) × (c .site p .round ≤ lastRound)
@@ -111,6 +115,7 @@ pub limits : (n : ℕ) (v : ℕ → ℕ) (es : List Event) → InLimits n (ran n
 limits n v es =
     record {
       lead = run.lead-in n v es;
+      spoken = run.spoken-in n v es;
       near = run.near-in n v es;
       rounds = run.rounds-in n v es;
       events = run.events-in n v es;
@@ -125,6 +130,20 @@ pub reach-never-shrinks : (n : ℕ) (v : ℕ → ℕ) (es later : List Event) (p
     → has (ran n v es .control .site p .reach) q ≡ true → has (ran n v (es ++ later) .control .site p .reach) q ≡ true
 reach-never-shrinks = run.reach-grows-in
 
+-- ---- what a send puts in transit
+pub record Posts (c : Config) (p q : ℕ) : Type 0 where
+  -- with a lead of 0 to 7 the message is in transit for the sender's round, and carries the value, vote and reach that the sender has
+  pub kept : c .control .site q .round ≤ c .control .site p .round → c .control .site p .round < c .control .site q .round + window
+      → (has (apply c (Send p q) .control .transit q (c .control .site p .round)) p ≡ true)
+      × (apply c (Send p q) .content .mail q (c .control .site p .round) p ≡ message (c .content .holding p))
+      × (apply c (Send p q) .control .carried q (c .control .site p .round) p ≡ c .control .site p .reach)
+  -- with a lead below 0 it is late, and what is in transit stays as it was
+  pub late : c .control .site p .round < c .control .site q .round
+      → (apply c (Send p q) .control .transit ≡ c .control .transit) × (apply c (Send p q) .content .mail ≡ c .content .mail)
+
+pub send-posts : (c : Config) (p q : ℕ) → verdict (c .control) (Send p q) ≡ Accepted → Posts c p q
+send-posts c p q a = record { kept = posts-kept c p q (accepted-is _ a); late = posts-late c p q (accepted-is _ a) }
+
 -- ---- mail is true
 -- of a message for round r from y to x, in transit or heard this round
 pub record Faithful (n : ℕ) (v : ℕ → ℕ) (es : List Event) (x r y : ℕ) : Type 0 where
@@ -137,6 +156,18 @@ pub record Faithful (n : ℕ) (v : ℕ → ℕ) (es : List Event) (x r y : ℕ) 
 
 pub mail-is-true : (n : ℕ) (v : ℕ → ℕ) (es : List Event) (x r y : ℕ) → Live (ran n v es .control) x r y → Faithful n v es x r y
 mail-is-true n v es x r y l = record { sent = run.moment-in n v es x r y l; carries = run.mail-in n v es x r y l }
+
+-- so a step applies the rule to what those it heard had to say in that round, and its reach gains what theirs was then; said and knew are any
+-- functions that give this of those heard
+pub step-goes-by-mail : (n : ℕ) (v : ℕ → ℕ) (es : List Event) (p : ℕ) (said : ℕ → Message) (knew : ℕ → ℕ)
+    → ((q : ℕ) → has (ran n v es .control .site p .heard) q ≡ true → Had n v es q (ran n v es .control .site p .round) (said q) (knew q))
+    → verdict (ran n v es .control) (Step p) ≡ Accepted
+    → (apply (ran n v es) (Step p) .content .holding p
+    ≡ rule (ran n v es .control .site p .round) (ran n v es .content .holding p) (messages (members n (ran n v es .control .site p .heard)) said))
+    × (apply (ran n v es) (Step p) .control .site p .reach
+    ≡ gathered (members n (ran n v es .control .site p .heard)) knew (ran n v es .control .site p .reach))
+step-goes-by-mail n v es p said knew had a =
+    (run.votes-in n v es p said knew had (accepted-is _ a), run.reaches-in n v es p said knew had (accepted-is _ a))
 
 -- no message is written twice: while a message is live, its sender may not send it anew
 pub never-overwritten : (n : ℕ) (v : ℕ → ℕ) (es : List Event) (p q : ℕ)

@@ -2,19 +2,24 @@
 -- Assumes nothing.
 use Prim.Native.Nat.{ℕ, _+_, _≤_, _<_, _^_}
 use native.Mathlib.Omega.{arith}
-use mathlib.Core.Path.{_≡_, refl}
+use mathlib.Core.Path.{_≡_, refl, sym, ap, _∙_}
 use mathlib.Core.Bool.{true, false}
 use mathlib.Core.List.{List, _++_}
-use Rattle.sets.specs.Sets.{has}
-use Rattle.voting.specs.Voting.{message}
+use Rattle.sets.specs.Sets.{has, members}
+use Rattle.voting.specs.declared.Message.{Message}
+use Rattle.voting.specs.Voting.{message, rule}
 use Rattle.rounds.specs.declared.Stage.{Stage}
 use Rattle.rounds.specs.declared.Stage.the-variants.{Sending, Collecting, Pending, Idle}
 use Rattle.rounds.specs.declared.Event.{Event}
+use Rattle.rounds.specs.declared.Event.the-variants.{Step}
 use Rattle.rounds.specs.Limits.{window, lastRound, mostEvents}
-use Rattle.rounds.specs.Run.{Control, openControl, opening}
+use Rattle.rounds.specs.Run.{Control, Config, openControl, opening}
 use Rattle.rounds.specs.Stages.{stage}
+use Rattle.rounds.specs.Verdicts.{accepted, verdict}
+use Rattle.rounds.specs.Events.{gathered, messages, nextControl, nextContent, apply}
 use Rattle.rounds.specs.Allowed.{Sends}
-use Rattle.rounds.specs.Claims.{ran, Everyone, Live, Moment, moments, times, total}
+use Rattle.rounds.specs.Claims.{ran, Everyone, Live, Moment, Had, moments, times, total}
+use Rattle.rounds.specs.Claims.Live.{taken}
 use Rattle.rounds.proofs.Leading.{leads, reached}
 use Rattle.rounds.proofs.Kept.{Kept, kept}
 use Rattle.rounds.proofs.Limits.{size-stays, rounds-kept, events-kept, Window, window-kept, open-window, in-window, Within, within-kept, open-within}
@@ -24,7 +29,8 @@ use Rattle.rounds.proofs.Reach.{reach-grows, own-reach}
 use Rattle.rounds.proofs.Live.{not-live, open-silent, live-from}
 use Rattle.rounds.proofs.Mail.{spoken-fresh, mail-true}
 use Rattle.rounds.proofs.Table.{Once, once-kept, open-once, at-sending, at-collecting, at-pending, at-idle}
-use Rattle.rounds.proofs.Running.{after-append, moment}
+use Rattle.rounds.proofs.Running.{after-append, apply-accepted, moment}
+use Rattle.rounds.proofs.Effects.{step-votes, step-reaches}
 
 module _ (n : ℕ) (v : ℕ → ℕ) (es : List Event) where
   abbrev now : Control
@@ -41,6 +47,9 @@ module _ (n : ℕ) (v : ℕ → ℕ) (es : List Event) where
   -- ---- the limits
   pub lead-in : (p q : ℕ) → p < n → q < n → now .site p .round ≤ now .site q .round + window
   lead-in p q hp hq = let size = size-in in throughout _ led-kept (open-led n) p q (omega arith) (omega arith) .0
+
+  pub spoken-in : (p q : ℕ) → p < n → q < n → has (now .site p .sent) q ≡ true → now .site p .round < now .site q .round + window
+  spoken-in p q hp hq = let size = size-in in throughout _ led-kept (open-led n) p q (omega arith) (omega arith) .1
 
   window-in : Window now
   window-in = throughout _ window-kept (open-window n)
@@ -125,3 +134,34 @@ mail-in n v es x r y l earlier later whole round =
     rw (← whole, after-append (opening n v) earlier later, ← round)
     (mail-true n v (reached n v earlier) (leads (ran n v earlier) later) x y
     (rw (← whole, after-append (opening n v) earlier later, ← round) at l))
+
+-- ---- a step: it goes by what the senders it heard had in that round
+module _ (n : ℕ) (v : ℕ → ℕ) (es : List Event) (p : ℕ) (said : ℕ → Message) (knew : ℕ → ℕ)
+    (had : (q : ℕ) → has (ran n v es .control .site p .heard) q ≡ true → Had n v es q (ran n v es .control .site p .round) (said q) (knew q)) where
+  heard-true : (q : ℕ) → has (ran n v es .control .site p .heard) q ≡ true
+      → (ran n v es .content .mail p (ran n v es .control .site p .round) q ≡ said q)
+      × (ran n v es .control .carried p (ran n v es .control .site p .round) q ≡ knew q)
+  heard-true q t =
+      let w = had q t .when in
+      let m = mail-in n v es p (ran n v es .control .site p .round) q (taken refl t) (w .earlier) (w .later) (w .whole) (w .round) in
+      (m .0 ∙ sym (had q t .said), m .1 ∙ sym (had q t .reach))
+
+  pub votes-in : accepted (verdict (ran n v es .control) (Step p)) ≡ true
+      → apply (ran n v es) (Step p) .content .holding p
+      ≡ rule (ran n v es .control .site p .round) (ran n v es .content .holding p) (messages (members n (ran n v es .control .site p .heard)) said)
+  unfolding nextContent
+  votes-in a =
+      ap (λ (c : Config). c .content .holding p) (apply-accepted (ran n v es) (Step p) a)
+      ∙ step-votes (ran n v es .control) (ran n v es .content) p said (λ q t. heard-true q t .0)
+      ∙ ap
+      (λ (k : ℕ). rule (ran n v es .control .site p .round) (ran n v es .content .holding p) (messages (members k (ran n v es .control .site p .heard)) said))
+      (size-in n v es)
+
+  pub reaches-in : accepted (verdict (ran n v es .control) (Step p)) ≡ true
+      → apply (ran n v es) (Step p) .control .site p .reach
+      ≡ gathered (members n (ran n v es .control .site p .heard)) knew (ran n v es .control .site p .reach)
+  unfolding nextControl
+  reaches-in a =
+      ap (λ (c : Config). c .control .site p .reach) (apply-accepted (ran n v es) (Step p) a)
+      ∙ step-reaches (ran n v es .control) (ran n v es .content) p knew (λ q t. heard-true q t .1)
+      ∙ ap (λ (k : ℕ). gathered (members k (ran n v es .control .site p .heard)) knew (ran n v es .control .site p .reach)) (size-in n v es)

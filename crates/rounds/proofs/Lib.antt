@@ -15,6 +15,7 @@ pub mod Reach
 pub mod Live
 pub mod Mail
 pub mod Table
+pub mod Effects
 pub mod Running
 pub mod InRuns
 pub mod Independence

@@ -91,6 +91,10 @@ pub at₂-same : {A : Type 0} (f : ℕ → ℕ → A) (p r : ℕ) (a : A) → at
 unfolding at₂
 at₂-same {A = A} f p r a = ap (λ (g : ℕ → A). g r) (at-same f p (at (f p) r a)) ∙ at-same (f p) r a
 
+pub at₃-same : {A : Type 0} (f : ℕ → ℕ → ℕ → A) (p r q : ℕ) (a : A) → at₃ f p r q a p r q ≡ a
+unfolding at₃
+at₃-same {A = A} f p r q a = ap (λ (g : ℕ → ℕ → A). g r q) (at-same f p (at₂ (f p) r q a)) ∙ at₂-same (f p) r q a
+
 -- ---- what holds of both arms holds of the one chosen
 pub cond-either : {A : Type 0} (P : A → Type 0) (b : Bool) (x y : A) → (b ≡ true → P x) → (b ≡ false → P y) → P (cond b x y)
 cond-either P true x y f g = f refl

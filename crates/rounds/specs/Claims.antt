@@ -5,6 +5,8 @@ use mathlib.Core.Path.{_≡_}
 use mathlib.Core.Bool.{true}
 use mathlib.Core.List.{List, [], _∷_, _++_}
 use Rattle.sets.specs.Sets.{has}
+use Rattle.voting.specs.declared.Message.{Message}
+use Rattle.voting.specs.Voting.{message}
 use Rattle.rounds.specs.declared.Stage.{Stage}
 use Rattle.rounds.specs.declared.Stage.the-variants.{Sending, Collecting, Pending, Idle}
 use Rattle.rounds.specs.declared.Event.{Event}
@@ -38,6 +40,12 @@ pub record Moment (c : Config) (es : List Event) (p r : ℕ) : Type 0 where
   pub later : List Event
   pub whole : earlier ++ later ≡ es
   pub round : after c earlier .control .site p .round ≡ r
+
+-- at a moment of the run p was at round r, with this to say and this reach
+pub record Had (n : ℕ) (v : ℕ → ℕ) (es : List Event) (p r : ℕ) (m : Message) (s : ℕ) : Type 0 where
+  pub when : Moment (opening n v) es p r
+  pub said : m ≡ message (ran n v (when .earlier) .content .holding p)
+  pub reach : s ≡ ran n v (when .earlier) .control .site p .reach
 
 -- where the replay of es stops: the events before it, all accepted; the one that is refused; and those that are never looked at
 pub record Stop (c : Config) (es : List Event) : Type 0 where
