@@ -53,7 +53,7 @@ pass : (b : Bool) (v rest : Verdict) → b ≡ false → refuse b v rest ≡ res
 unfolding refuse
 pass b v rest e = rw e
 
-neither : (a b : Bool) → (a || b) ≡ false → (a ≡ false) × (b ≡ false)
+pub neither : (a b : Bool) → (a || b) ≡ false → (a ≡ false) × (b ≡ false)
 neither true b e = absurd (true≢false e)
 neither false b e = (refl, e)
 
@@ -61,7 +61,7 @@ or-neither : (a b : Bool) → a ≡ false → b ≡ false → (a || b) ≡ false
 or-neither true b e f = e
 or-neither false b e f = f
 
-inside : (c : Control) (p : ℕ) → outside c p ≡ false → p < c .size
+pub inside : (c : Control) (p : ℕ) → outside c p ≡ false → p < c .size
 unfolding outside
 inside c p e = leb-false (c .size) p e
 

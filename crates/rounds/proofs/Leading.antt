@@ -18,7 +18,7 @@ use Rattle.rounds.proofs.Answers.{allowed}
 use Rattle.rounds.proofs.Broadcasts.{each-sends}
 
 module _ {c₀ : Control} {d₀ : Content} where
-  sends-lead : {c : Control} {d : Content} {rs : List Report} → Leads c₀ d₀ c d rs → (p : ℕ) → Broadcasts c p
+  pub sends-lead : {c : Control} {d : Content} {rs : List Report} → Leads c₀ d₀ c d rs → (p : ℕ) → Broadcasts c p
       → (k : ℕ) → k ≤ c .size → Leads c₀ d₀ (sendsControl k c p) (sendsContent k c d p) rs
   unfolding sendsControl sendsContent
   sends-lead l p b zero h = l
@@ -35,7 +35,7 @@ module _ {c₀ : Control} {d₀ : Content} where
   next-leads l (Step p) h = steps l p h
   next-leads {c = c} l (Broadcast p) h = unreported (sends-lead l p h (c .size) (omega arith))
 
-  apply-leads : {c : Control} {d : Content} {rs : List Report} → Leads c₀ d₀ c d rs → (e : Event)
+  pub apply-leads : {c : Control} {d : Content} {rs : List Report} → Leads c₀ d₀ c d rs → (e : Event)
       → Leads c₀ d₀ (applyControl c e) (applyContent c d e) (rs ++ ifAccepted (verdict c e) (told c e) [])
   unfolding applyControl applyContent ifAccepted
   apply-leads {c = c} {d = d} {rs = rs} l e = go (accepted (verdict c e)) refl

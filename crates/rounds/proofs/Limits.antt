@@ -58,7 +58,7 @@ Window c = (x r : ℕ) → (r < c .site x .round → c .transit x r ≡ empty) �
 abbrev Shut : ℕ → ℕ → ℕ → Type 0
 Shut round r t = (r < round → t ≡ empty) × (round + window ≤ r → t ≡ empty)
 
-timely-lead : (r s : ℕ) → timely r s ≡ true → (s ≤ r) × (r < s + window)
+pub timely-lead : (r s : ℕ) → timely r s ≡ true → (s ≤ r) × (r < s + window)
 unfolding timely
 timely-lead r s e = go (leb s r) (ltb r (s + window)) refl refl e
   where

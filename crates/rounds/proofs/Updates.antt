@@ -4,7 +4,7 @@ use Prim.Native.Nat.{ℕ}
 use mathlib.Core.Path.{_≡_, refl, sym, ap, _∙_, subst}
 use mathlib.Core.Bool.{Bool, true, false, cond}
 use lib.Dec.{eqb}
-use borrow.Author.Tests.{eqb-true, eqb-false, eq-eqb}
+use borrow.Author.Tests.{eqb-true, eqb-false, eq-eqb, ne-eqb}
 use Rattle.rounds.specs.Run.{at, at₂, at₃}
 
 -- ---- three functions changed at the same place, where an old entry is known to be another one
@@ -82,7 +82,11 @@ module _ {A B : Type 0} (P : ℕ → ℕ → ℕ → A → B → Type 0) (f : �
       (λ j n k. second j k n))
       (λ i n j k. first i j k n)
 
--- ---- the new entry itself
+-- ---- an old entry, and the new one itself
+pub at-other : {A : Type 0} (f : ℕ → A) (p : ℕ) (a : A) (k : ℕ) → (k ≡ p → ⊥) → at f p a k ≡ f k
+unfolding at
+at-other f p a k n = rw (ne-eqb k p n, at)
+
 pub at-same : {A : Type 0} (f : ℕ → A) (p : ℕ) (a : A) → at f p a p ≡ a
 unfolding at
 at-same f p a = rw (eq-eqb p p refl, at)

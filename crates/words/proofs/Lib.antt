@@ -1,0 +1,15 @@
+-- The laws of the memory: places and writes, and that each call means what the abstract round machine does.
+pub mod Places
+pub mod Frames
+pub mod Settling
+pub mod Sending
+pub mod Receiving
+pub mod Stepping
+pub mod Fitting
+pub mod Answering
+pub mod Opening
+pub mod Meaning
+pub mod Reading
+pub mod Unique
+pub mod AllExamples
+pub mod Determined

@@ -1,0 +1,137 @@
+-- The front page of the memory: what each call means. Where the memory shows a configuration of the abstract round machine, every event is answered
+-- as that machine answers it, and the memory then shows its next configuration; an opening shows the opened one; what is read is what it holds.
+-- Assumes nothing.
+use Prim.Native.Nat.{ℕ, zero, suc, _≤_, _<_}
+use native.Mathlib.Omega.{arith}
+use mathlib.Core.Path.{_≡_, refl, sym, ap, _∙_, subst}
+use mathlib.Core.Bool.{Bool, true, false, cond}
+use mathlib.Core.List.{List, [], _++_}
+use lib.Dec.{leb}
+use lib.ListN.{length}
+use borrow.Author.Tests.{lt-leb}
+use Rattle.rounds.specs.declared.Stage.{Stage}
+use Rattle.rounds.specs.declared.Event.{Event}
+use Rattle.rounds.specs.declared.Event.the-variants.{Send, Receive, Step, Broadcast}
+use Rattle.rounds.specs.declared.Verdict.{Verdict}
+use Rattle.rounds.specs.declared.Verdict.the-variants.{Accepted}
+use Rattle.rounds.specs.Limits.{mostProcesses}
+use Rattle.rounds.specs.Run.{Control, Content, Config, openControl, opening}
+use Rattle.rounds.specs.Stages.{stage, one, index}
+use Rattle.rounds.specs.Verdicts.{accepted, openVerdict, verdict}
+use Rattle.rounds.specs.Events.{sendsControl, sendsContent, nextControl, nextContent, ifAccepted, apply}
+use Rattle.rounds.specs.Runs.{Report, told}
+use Rattle.rounds.specs.Allowed.{Broadcasts, Allowed}
+use Rattle.rounds.specs.Leads.{Reached}
+use Rattle.rounds.specs.Leads.Leads.{stays}
+use Rattle.rounds.proofs.Answers.{allowed, accepted-is, opens-right}
+use Rattle.rounds.proofs.Broadcasts.{sends-size, each-sends}
+use Rattle.rounds.proofs.Leading.{sends-lead, apply-leads}
+use Rattle.rounds.proofs.Limits.{size-stays}
+use Rattle.rounds.proofs.Running.{apply-accepted, apply-refused}
+use Rattle.words.specs.declared.Answer.{Answer}
+use Rattle.words.specs.declared.Answer.the-variants.{Judged}
+use Rattle.words.specs.declared.Standing.{Standing}
+use Rattle.words.specs.Layout.{Mem, get, Head, EVENTS}
+use Rattle.words.specs.Spelled.{people, controlOf}
+use Rattle.words.specs.Calls.{opened, begins, sentBelow, done, applied, answer, standingOf}
+use Rattle.words.specs.Shows.{Shown, Shows, Meant, Given, standing}
+use Rattle.words.proofs.Settling.{Fit, people-shown}
+use Rattle.words.proofs.Sending.{sent-shows}
+use Rattle.words.proofs.Receiving.{received-shows}
+use Rattle.words.proofs.Stepping.{stepped-shows}
+use Rattle.words.proofs.Fitting.{fit, round-top, beyond-empty}
+use Rattle.words.proofs.Answering.{verdict-shown, answer-shown}
+use Rattle.words.proofs.Opening.{opened-shown}
+use Rattle.words.proofs.Reading.{size-means, events-means, site-means}
+
+-- ---- an accepted event
+module _ (m : Mem) (c : Control) (d : Content) (v : ℕ → ℕ) {rs : List Report} (l : Reached (c .size) v c d rs) (few : c .size ≤ mostProcesses)
+    (k : Shown m c d) where
+  -- the sends of a broadcast, one after the other
+  sends-shown : (p : ℕ) → Broadcasts c p → (n : ℕ) → n ≤ c .size → Shown (sentBelow n m p) (sendsControl n c p) (sendsContent n c d p)
+  unfolding sentBelow sendsControl sendsContent
+  sends-shown p b zero h = k
+  sends-shown p b (suc n) h =
+      sent-shows (sentBelow n m p) (sendsControl n c p) (sendsContent n c d p) p n
+      (fit (c .size) v (sends-lead l p b n (omega arith)) (let size = sends-size n c p in omega arith))
+      (each-sends c p b n h) (sends-shown p b n (omega arith))
+
+  done-shown : (e : Event) → Allowed c e → Shown (done m e) (nextControl c e) (nextContent c d e)
+  unfolding done nextControl nextContent
+  done-shown (Send p q) h = sent-shows m c d p q (fit (c .size) v l few) h k
+  done-shown (Receive p q) h = received-shows m c d p q (fit (c .size) v l few) h k
+  done-shown (Step p) h = stepped-shows m c d p (fit (c .size) v l few) (round-top (c .size) v l p) (beyond-empty (c .size) v l p) h k
+  done-shown (Broadcast p) h = rw (people-shown m c d few k) (sends-shown p h (c .size) (omega arith))
+
+-- ---- any event
+applied-shown : (m : Mem) (c : Config) (e : Event) → Shows m c → Shown (applied m e) (apply c e .control) (apply c e .content)
+unfolding applied ifAccepted
+applied-shown m c e k = rw (verdict-shown m (c .control) (c .content) (k .few) (k .shown) e) (go (accepted (verdict (c .control) e)) refl)
+  where
+    go : (b : Bool) → accepted (verdict (c .control) e) ≡ b → Shown (cond b (done m e) m) (apply c e .control) (apply c e .content)
+    go true a =
+        rw (apply-accepted c e a) (done-shown m (c .control) (c .content) (k .values) (k .reached) (k .few) (k .shown) e (allowed (c .control) e a))
+    go false a = rw (apply-refused c e a) (k .shown)
+
+-- the number of processes stays
+apply-size : (n : ℕ) (v : ℕ → ℕ) (c : Config) (e : Event) {rs : List Report} → Reached n v (c .control) (c .content) rs → apply c e .control .size ≡ n
+unfolding apply openControl
+apply-size n v c e l = size-stays (apply-leads l e)
+
+pub shows-next : (m : Mem) (c : Config) (e : Event) → Shows m c → Shows (applied m e) (apply c e)
+unfolding apply
+shows-next m c e k =
+    let n = c .control .size in
+    let size = apply-size n (k .values) c e (k .reached) in
+    let more = k .reports ++ ifAccepted (verdict (c .control) e) (told (c .control) e) [] in
+    record {
+      values = k .values;
+      reports = more;
+      reached = subst (λ (i : ℕ). Reached i (k .values) (apply c e .control) (apply c e .content) more) (sym size) (apply-leads (k .reached) e);
+      few = rw size (k .few);
+      shown = applied-shown m c e k;
+    }
+
+pub means : (m : Mem) (c : Config) (e : Event) → Shows m c → Meant (answer (controlOf m) e) (applied m e) c e
+means m c e k =
+    record {
+      answered = answer-shown m (c .control) (c .content) (k .few) (k .shown) e;
+      shows = shows-next m c e k;
+    }
+
+-- ---- an opening
+pub opening-shows : (n : ℕ) (xs : List ℕ) (v : ℕ → ℕ) → n ≤ mostProcesses → Given n xs v → Shows (opened n xs) (opening n v)
+unfolding opening openControl
+opening-shows n xs v few given = record { values = v; reports = []; reached = stays; few = few; shown = opened-shown n xs v few given }
+
+pub begin-means : (m : Mem) (n : ℕ) (xs : List ℕ) (v : ℕ → ℕ) → openVerdict n (length xs) ≡ Accepted → Given n xs v → Shows (begins m n xs) (opening n v)
+unfolding begins ifAccepted
+begin-means m n xs v a given =
+    let yes-it-is = accepted-is (openVerdict n (length xs)) a in
+    rw yes-it-is (opening-shows n xs v (opens-right n (length xs) yes-it-is .most) given)
+
+-- ---- the promises of the calls: what is exact, and with it what that means
+-- a call that answers with a verdict
+pub judged-meant : (m : Mem) (e : Event) → answer (controlOf m) e ≡ Judged (verdict (controlOf m) e) → {r : Verdict} {b : Mem}
+    → (r ≡ verdict (controlOf m) e) × (b ≡ applied m e)
+    → ((r ≡ verdict (controlOf m) e) × (b ≡ applied m e)) × ((c : Config) → Shows m c → Meant (Judged r) b c e)
+judged-meant m e plain x = (x, λ c k. rw (x .0, x .1, ← plain) (means m c e k))
+
+-- a call that answers with an answer
+pub answered-meant : (m : Mem) (e : Event) {a : Answer} {b : Mem} → (a ≡ answer (controlOf m) e) × (b ≡ applied m e)
+    → ((a ≡ answer (controlOf m) e) × (b ≡ applied m e)) × ((c : Config) → Shows m c → Meant a b c e)
+answered-meant m e x = (x, λ c k. rw (x .0, x .1) (means m c e k))
+
+pub begin-meant : (m : Mem) (n : ℕ) (xs : List ℕ) {r : Verdict} {b : Mem} → (r ≡ openVerdict n (length xs)) × (b ≡ begins m n xs)
+    → ((r ≡ openVerdict n (length xs)) × (b ≡ begins m n xs)) × (r ≡ Accepted → (v : ℕ → ℕ) → Given n xs v → Shows b (opening n v))
+begin-meant m n xs x = (x, λ a v given. rw (x .1) (begin-means m n xs v (sym (x .0) ∙ a) given))
+
+pub size-meant : (m : Mem) {r : ℕ} → r ≡ people m → (r ≡ people m) × ((c : Config) → Shows m c → r ≡ c .control .size)
+size-meant m x = (x, λ c k. x ∙ size-means m c k)
+
+pub events-meant : (m : Mem) {r : ℕ} → r ≡ get m (Head EVENTS) → (r ≡ get m (Head EVENTS)) × ((c : Config) → Shows m c → r ≡ c .control .events)
+events-meant m x = (x, λ c k. x ∙ events-means m c k)
+
+pub site-meant : (m : Mem) (p : ℕ) {r : Standing} → r ≡ standingOf m p
+    → (r ≡ standingOf m p) × ((c : Config) → Shows m c → p < c .control .size → r ≡ standing c p)
+site-meant m p x = (x, λ c k h. x ∙ site-means m c k p h)

@@ -1,0 +1,53 @@
+-- What is read of a memory that shows a configuration: its size, its events, and all that is shown of a process.
+-- Assumes nothing.
+use Prim.Native.Nat.{ℕ, _+_, _-_, _*_, _≤_, _<_, _^_}
+use native.Mathlib.Omega.{arith}
+use mathlib.Core.Path.{_≡_, refl, sym, ap, _∙_}
+use lib.Dec.{leb}
+use borrow.Author.Tests.{lt-leb}
+use Rattle.voting.specs.declared.Holding.{Holding}
+use Rattle.rounds.specs.declared.Stage.{Stage}
+use Rattle.rounds.specs.declared.Stage.the-variants.{Sending, Collecting, Pending, Idle}
+use Rattle.rounds.specs.Limits.{mostEvents}
+use Rattle.rounds.specs.Run.{Config}
+use Rattle.rounds.specs.Stages.{index, one}
+use Rattle.words.specs.Layout.{Mem, Head, get, EVENTS}
+use Rattle.words.specs.Spelled.{word, people, holdingOf, countOf}
+use Rattle.words.specs.Calls.{standingOf}
+use Rattle.words.specs.Shows.{Shows, standing}
+use Rattle.words.proofs.Settling.{Fit, word-fits, people-shown, stage-shown}
+use Rattle.words.proofs.Sending.{round-word, reach-word}
+use Rattle.words.proofs.Fitting.{fit}
+
+module _ (m : Mem) (c : Config) (k : Shows m c) where
+  pub size-means : people m ≡ c .control .size
+  size-means = people-shown m (c .control) (c .content) (k .few) (k .shown)
+
+  pub events-means : get m (Head EVENTS) ≡ c .control .events
+  events-means = k .shown .events
+
+  abbrev fits : Fit (c .control)
+  fits = fit (c .control .size) (k .values) (k .reached) (k .few)
+
+  -- a count is settled, and no larger than a word
+  pub count-shown : (p : ℕ) (s : Stage) → p < c .control .size → word (countOf m p s) ≡ c .control .count p s
+  unfolding countOf
+  count-shown p s h =
+      rw (stage-shown m (c .control) (c .content) (k .few) (k .shown) p h, k .shown .events, ← k .shown .each p h .count s)
+      (word-fits (c .control .count p s) (let small = fits .small p s in let room = fits .room in omega arith))
+
+  pub site-means : (p : ℕ) → p < c .control .size → standingOf m p ≡ standing c p
+  unfolding standingOf standing
+  site-means p h =
+      let own = k .shown .each p h in
+      rw (
+        size-means,
+        lt-leb (c .control .size) p h,
+        round-word m (c .control) (c .content) (k .shown) p h,
+        reach-word m (c .control) (c .content) (k .shown) p h,
+        own .holding,
+        count-shown p Sending h,
+        count-shown p Collecting h,
+        count-shown p Pending h,
+        count-shown p Idle h,
+      )
