@@ -10,7 +10,7 @@ use voting::Tally;
 use words::Answer;
 use words::Fate;
 use words::Standing;
-ghost use Prim.Native.Nat.{ℕ, _-_, _≤_, _<_};
+ghost use Prim.Native.Nat.{ℕ, suc, _-_, _≤_, _<_};
 ghost use mathlib.Core.Path.{_≡_};
 ghost use mathlib.Core.Bool.{cond};
 ghost use lib.ListN.{length};
@@ -31,7 +31,7 @@ ghost use Rattle.words.specs.Layout.{get, put, Head, Line, Transit, Mail};
 ghost use Rattle.words.specs.Spelled as Spelled;
 ghost use Rattle.words.specs.Spelled.{word, flagOf, wordOf, holdingOf, messageOf, carriedOf, controlOf, countOf};
 ghost use Rattle.words.specs.Calls as Calls;
-ghost use Rattle.words.specs.Calls.{applied, begins, answer, standingOf};
+ghost use Rattle.words.specs.Calls.{messagesBelow, reachBelow, applied, begins, answer, standingOf};
 ghost use Rattle.words.specs.Shows.{Shows, Meant, Given, standing};
 
 // ---- the limits
@@ -458,9 +458,10 @@ struct Gathered {
     reach: u32,
 }
 
-// The message of q to p for its round is added, if p has heard it.
+// What p has heard from the processes below q, and what it has heard from q.
 fn hear(run: &[u32; RUN], p: u32, q: u32, g: Gathered) -> Gathered
-    ensures { λ r. ⌜ (r .tally ≡ cond (has (get (now (run .entry)) (Line p Layout.HEARD)) q) (Tallies.hear (g .tally) (messageOf (now (run .entry)) p (get (now (run .entry)) (Line p Layout.ROUND)) q)) (g .tally)) × (r .reach ≡ cond (has (get (now (run .entry)) (Line p Layout.HEARD)) q) (union (g .reach) (carriedOf (now (run .entry)) p (get (now (run .entry)) (Line p Layout.ROUND)) q)) (g .reach)) ⌝ }
+    requires { ⌜ (g .tally ≡ Tallies.tally (messagesBelow q (now run) p)) × (g .reach ≡ reachBelow q (now run) p) ⌝ }
+    ensures { λ r. ⌜ (r .tally ≡ Tallies.tally (messagesBelow (suc q) (now (run .entry)) p)) × (r .reach ≡ reachBelow (suc q) (now (run .entry)) p) ⌝ }
 {
     if sets::has(line(run, p, HEARD), q) {
         let r = line(run, p, ROUND);
@@ -472,9 +473,9 @@ fn hear(run: &[u32; RUN], p: u32, q: u32, g: Gathered) -> Gathered
     g
 }
 
-// What p has heard from the processes below n, all places tested.
+// What p has heard from the processes below n: every place is tested.
 fn listen(run: &[u32; RUN], p: u32, n: u32) -> Gathered
-    ensures { λ r. ⌜ (r .tally ≡ Tallies.tally (messages (members n (get (now (run .entry)) (Line p Layout.HEARD))) (messageOf (now (run .entry)) p (get (now (run .entry)) (Line p Layout.ROUND))))) × (r .reach ≡ gathered (members n (get (now (run .entry)) (Line p Layout.HEARD))) (carriedOf (now (run .entry)) p (get (now (run .entry)) (Line p Layout.ROUND))) (get (now (run .entry)) (Line p Layout.REACH))) ⌝ }
+    ensures { λ r. ⌜ (r .tally ≡ Tallies.tally (messagesBelow n (now (run .entry)) p)) × (r .reach ≡ reachBelow n (now (run .entry)) p) ⌝ }
 {
     let mut g = Gathered {
         tally: voting::silence(),

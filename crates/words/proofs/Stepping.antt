@@ -25,8 +25,8 @@ use Rattle.rounds.proofs.Updates.{at-same, at-other}
 use Rattle.rounds.proofs.Live.{live-step}
 use Rattle.rounds.proofs.Effects.{step-votes, step-reaches}
 use Rattle.words.specs.Layout.{Mem, Line, Transit, Mail, get, Write, _:=_, writes, VALUE, VOTED, VOTE, DECIDED, DECISION, ROUND, SENT, HEARD, REACH, SINCE, COUNTS}
-use Rattle.words.specs.Spelled.{word, choice, flagOf, wordOf, siteOf, holdingOf, messageOf, carriedOf}
-use Rattle.words.specs.Calls.{begun, heardIn, nextHolding, nextReach, held, advanced, stepped}
+use Rattle.words.specs.Spelled.{choice, flagOf, wordOf, people, siteOf, holdingOf, messageOf, carriedOf}
+use Rattle.words.specs.Calls.{begun, messagesBelow, reachBelow, held, advanced, stepped}
 use Rattle.words.specs.Shows.{ShowsProcess, Shown}
 use Rattle.words.proofs.Places.{Inside, kept, wrote, round-place}
 use Rattle.words.proofs.Frames.{index-small, Near, holding-kept, site-kept, message-kept, carried-kept, changed}
@@ -195,21 +195,22 @@ module _ (m : Mem) (c : Control) (d : Content) (p : ℕ) (f : Fit (tick c)) (h :
 
 -- ---- an accepted step
 module _ (m : Mem) (c : Control) (d : Content) (p : ℕ) (few : Fit c) (hp : p < c .size) (k : Shown m c d) where
-  heard-shown : heardIn m p ≡ members (c .size) (c .site p .heard)
-  unfolding heardIn siteOf
+  heard-shown : members (people m) (get m (Line p HEARD)) ≡ members (c .size) (c .site p .heard)
+  unfolding siteOf
   heard-shown = rw (people-shown m c d (few .few) k, ap (λ (s : Site). s .heard) (k .each p hp .site))
 
   -- the rule on what the words say is the round machine's step
-  holding-shown : nextHolding m p ≡ rule (c .site p .round) (d .holding p) (messages (heardBy c p) (d .mail p (c .site p .round)))
-  unfolding nextHolding stepContent
+  holding-shown : rule (get m (Line p ROUND)) (holdingOf m p) (messagesBelow (people m) m p)
+      ≡ rule (c .site p .round) (d .holding p) (messages (heardBy c p) (d .mail p (c .site p .round)))
+  unfolding messagesBelow stepContent
   holding-shown =
       let own = k .each p hp in
       rw (round-word m c d k p hp, own .holding, heard-shown)
       (sym (step-votes c d p (messageOf m p (c .site p .round)) (λ q t. sym (own .mail (c .site p .round) q (taken refl t))))
       ∙ at-same (d .holding) p _)
 
-  reach-shown : nextReach m p ≡ stepControl (tick c) p .site p .reach
-  unfolding nextReach
+  reach-shown : reachBelow (people m) m p ≡ stepControl (tick c) p .site p .reach
+  unfolding reachBelow
   reach-shown =
       let own = k .each p hp in
       rw (round-word m c d k p hp, reach-word m c d k p hp, heard-shown)

@@ -7,6 +7,7 @@ use lib.Dec.{leb}
 use lib.ListN.{getD, length, replicate}
 use Rattle.sets.specs.Sets.{empty, with, without, members}
 use Rattle.voting.specs.declared.Choice.the-variants.{Absent}
+use Rattle.voting.specs.declared.Message.{Message}
 use Rattle.voting.specs.declared.Holding.{Holding}
 use Rattle.voting.specs.Voting.{rule}
 use Rattle.rounds.specs.declared.Stage.the-variants.{Sending, Collecting, Pending, Idle}
@@ -95,18 +96,13 @@ unfoldable pub received : Mem → ℕ → ℕ → Mem
 received m p q = taken (begun m p) p q
 
 -- ---- a step of p
--- the processes that p has heard this round, in ascending order
-unfoldable pub heardIn : Mem → ℕ → List ℕ
-heardIn m p = members (people m) (get m (Line p HEARD))
+-- the messages that p has heard this round from the processes below k, by ascending senders
+unfoldable pub messagesBelow : ℕ → Mem → ℕ → List Message
+messagesBelow k m p = messages (members k (get m (Line p HEARD))) (messageOf m p (get m (Line p ROUND)))
 
--- what p holds after the round, and its reach
-unfoldable pub nextHolding : Mem → ℕ → Holding
-nextHolding m p =
-    let r = get m (Line p ROUND) in
-    rule r (holdingOf m p) (messages (heardIn m p) (messageOf m p r))
-
-unfoldable pub nextReach : Mem → ℕ → ℕ
-nextReach m p = gathered (heardIn m p) (carriedOf m p (get m (Line p ROUND))) (get m (Line p REACH))
+-- its reach, with what these carry
+unfoldable pub reachBelow : ℕ → Mem → ℕ → ℕ
+reachBelow k m p = gathered (members k (get m (Line p HEARD))) (carriedOf m p (get m (Line p ROUND))) (get m (Line p REACH))
 
 unfoldable pub held : Mem → ℕ → Holding → Mem
 held m p h =
@@ -130,7 +126,10 @@ advanced m p r reach =
     ∷ [])
 
 unfoldable pub stepped : Mem → ℕ → Mem
-stepped m p = advanced (held (begun m p) p (nextHolding m p)) p (get m (Line p ROUND)) (nextReach m p)
+stepped m p =
+    let r = get m (Line p ROUND) in
+    let h = rule r (holdingOf m p) (messagesBelow (people m) m p) in
+    advanced (held (begun m p) p h) p r (reachBelow (people m) m p)
 
 -- ---- a broadcast of p: its sends to the processes below k, in ascending order
 unfoldable pub sentBelow : ℕ → Mem → ℕ → Mem

@@ -12,12 +12,12 @@ use Rattle.rounds.specs.Examples.{run, equal, numbers, hears, roundOfTwo, round
 use Rattle.words.specs.declared.Standing.{Standing}
 use Rattle.words.specs.Layout.{Mem, get, put}
 use Rattle.words.specs.Spelled.{word, choice, flagOf, wordOf, people, siteOf, holdingOf, messageOf, carriedOf, controlOf, countOf}
-use Rattle.words.specs.Calls.{blank, placed, placedBelow, opened, counted, settled, begun, fate, marked, posted, delivered, sent, taken, received, heardIn, nextHolding, nextReach, held, advanced, stepped, sentBelow, done, applied, answer, nobody, standingOf}
+use Rattle.words.specs.Calls.{blank, placed, placedBelow, opened, counted, settled, begun, fate, marked, posted, delivered, sent, taken, received, messagesBelow, reachBelow, held, advanced, stepped, sentBelow, done, applied, answer, nobody, standingOf}
 use Rattle.words.specs.Shows.{verdictOf, standing}
 
 -- the memory after the events. To unfold it is to unfold the whole machine in memory: its `unfolding` line names all of it
 unfoldable pub memory : Mem → List Event → Mem
-unfolding run get put word choice flagOf wordOf people siteOf holdingOf messageOf carriedOf controlOf countOf blank placed placedBelow opened counted settled begun fate marked posted delivered sent taken received heardIn nextHolding nextReach held advanced stepped sentBelow done applied answer nobody standingOf verdictOf standing
+unfolding run get put word choice flagOf wordOf people siteOf holdingOf messageOf carriedOf controlOf countOf blank placed placedBelow opened counted settled begun fate marked posted delivered sent taken received messagesBelow reachBelow held advanced stepped sentBelow done applied answer nobody standingOf verdictOf standing
 memory m [] = m
 memory m (e ∷ es) = memory (applied m e) es
 

@@ -1,10 +1,6 @@
 -- `carry_step` is its definition, call by call; what the tally says is what the rule over the messages says.
 -- Assumes nothing.
-use Rattle.sets.specs.Sets.{members}
-use Rattle.rounds.specs.Events.{messages}
-use Rattle.words.specs.Layout.{get, Line, ROUND, HEARD}
-use Rattle.words.specs.Spelled.{messageOf}
-use Rattle.words.specs.Calls.{heardIn, nextHolding, nextReach, stepped}
+use Rattle.words.specs.Calls.{messagesBelow, stepped}
 use borrow.Author.Needs.{needs}
 use Rattle.machine.proofs.carry_step.Statement.{statement}
 use Rattle.machine.proofs.carry_step.Tie as tie
@@ -34,14 +30,12 @@ advance-requires : tie.Need-advance-requires
 advance-requires c κs = search needs
 
 returns : tie.Need-returns
-unfolding stepped nextHolding nextReach heardIn
+unfolding stepped
 returns c =
     let c4 = c .before .before .before .before in
     let c10 = c4 .before .before .before .before .before .before in
     let c15 = c10 .before .before .before .before .before in
-    let m = c15 .args .run .now in
-    let p = c15 .args .p in
-    let heard = messages (members (c10 .before .people .result) (get m (Line p HEARD))) (messageOf m p (get m (Line p ROUND))) in
+    let heard = messagesBelow (c10 .before .people .result) (c15 .args .run .now) (c15 .args .p) in
     rw (
       c .advance .ensures,
       c .before .before .hold .ensures,

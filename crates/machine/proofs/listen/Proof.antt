@@ -1,24 +1,18 @@
 -- `listen` goes over the processes below n; at each the tally and the reach so far are those of what was heard.
 -- Assumes nothing.
 use Prim.Native.Nat.{_≤_, _-_}
-use mathlib.Core.Path.{_≡_}
+use mathlib.Core.Path.{_≡_, _∙_}
 use native.Mathlib.Omega.{arith}
 use native.Mathlib.Numerals.{add-one}
-use Rattle.sets.specs.Sets.{members}
 use Rattle.voting.specs.Tally.{tally}
-use Rattle.rounds.specs.Events.{gathered, messages}
-use Rattle.words.specs.Layout.{get, Line, ROUND, HEARD, REACH}
-use Rattle.words.specs.Spelled.{messageOf, carriedOf}
-use Rattle.machine.proofs.Heard.{tally-next, gathered-next}
+use Rattle.words.specs.Calls.{messagesBelow, reachBelow}
+use Rattle.machine.proofs.Heard.{tally-none, reach-none}
 use borrow.Author.Needs.{needs}
 use Rattle.machine.proofs.listen.Statement.{statement}
 use Rattle.machine.proofs.listen.Tie as tie
 
 abbrev Inv-loop : tie.InvT-loop
-Inv-loop run p n g₀ q₀ g q =
-    (q ≤ n)
-    × (g .tally ≡ tally (messages (members q (get run (Line p HEARD))) (messageOf run p (get run (Line p ROUND)))))
-    × (g .reach ≡ gathered (members q (get run (Line p HEARD))) (carriedOf run p (get run (Line p ROUND))) (get run (Line p REACH)))
+Inv-loop run p n g₀ q₀ g q = (q ≤ n) × (g .tally ≡ tally (messagesBelow q run p)) × (g .reach ≡ reachBelow q run p)
 
 abbrev μ-loop : tie.MeasureT-loop
 μ-loop run p n g₀ q₀ g q = n - q
@@ -30,11 +24,10 @@ line-requires : tie.Need-line-requires Inv-loop μ-loop
 line-requires c κs = search needs
 
 loop-holds : tie.Need-loop-holds Inv-loop μ-loop
-unfolding members messages gathered
-loop-holds c = (search needs, c .before .silence .ensures, c .line .ensures)
+loop-holds c = (search needs, c .before .silence .ensures ∙ tally-none _ _, c .line .ensures ∙ reach-none _ _)
 
 hear-requires : tie.Need-hear-requires Inv-loop μ-loop
-hear-requires c κs = search needs
+hear-requires c κs = (c .before .loop .inv .1, c .before .loop .inv .2)
 
 add-q : tie.Need-add-q Inv-loop μ-loop
 add-q c = search needs
@@ -44,11 +37,8 @@ loop-less c = search needs
 
 loop-again : tie.Need-loop-again Inv-loop μ-loop
 loop-again c =
-    let l = c .before .before .loop in (
-      search needs,
-      rw (add-one (l .q), tally-next (l .q), ← l .inv .1) (c .hear .ensures .0),
-      rw (add-one (l .q), gathered-next (l .q), ← l .inv .2) (c .hear .ensures .1),
-    )
+    let l = c .before .before .loop in
+    (search needs, rw (add-one (l .q)) (c .hear .ensures .0), rw (add-one (l .q)) (c .hear .ensures .1))
 
 returns : tie.Need-returns Inv-loop μ-loop
 returns c =
