@@ -32,7 +32,7 @@ ghost use Rattle.words.specs.Spelled as Spelled;
 ghost use Rattle.words.specs.Spelled.{word, flagOf, wordOf, holdingOf, messageOf, carriedOf, controlOf, countOf};
 ghost use Rattle.words.specs.Calls as Calls;
 ghost use Rattle.words.specs.Calls.{messagesBelow, reachBelow, applied, begins, answer, standingOf};
-ghost use Rattle.words.specs.Shows.{Shows, Meant, Given, standing};
+ghost use Rattle.words.specs.Shows.{Shows, Meant, Given, verdictOf, standing};
 
 // ---- the limits
 const MOST_PROCESSES: u32 = 16;
@@ -88,6 +88,41 @@ const SINCE: usize = 9;
 const COUNTS: usize = 10;
 
 const CARRIED: usize = 3;
+
+// ---- what an answer says
+// The verdict of an answer.
+pub fn verdict(a: Answer) -> Verdict
+    ensures { λ r. ⌜ r ≡ verdictOf a ⌝ }
+{
+    match a {
+        Answer::Judged(v) => v,
+        Answer::Finished(_, _) => Verdict::Accepted,
+    }
+}
+
+// The number that document 01 gives a verdict.
+pub fn number(v: Verdict) -> u32
+    ensures { λ r. ⌜ r ≡ Verdicts.numberOf v ⌝ }
+{
+    match v {
+        Verdict::Accepted => 0,
+        Verdict::BadSize => 1,
+        Verdict::NoProcess => 2,
+        Verdict::AlreadySent => 3,
+        Verdict::TooFarAhead => 4,
+        Verdict::NothingInTransit => 5,
+        Verdict::NotSentToAll => 6,
+        Verdict::LastRound => 7,
+        Verdict::TooManyEvents => 8,
+        Verdict::WrongCount => 11,
+    }
+}
+
+fn accepted(v: Verdict) -> bool
+    ensures { λ r. ⌜ r ≡ Verdicts.accepted v ⌝ }
+{
+    number(v) == 0
+}
 
 // ---- one word
 fn head(run: &[u32; RUN], k: usize) -> u32
@@ -263,23 +298,6 @@ fn begin_event(run: &mut [u32; RUN], p: u32)
 {
     count_event(&mut *run);
     settle(&mut *run, p);
-}
-
-fn accepted(v: Verdict) -> bool
-    ensures { λ r. ⌜ r ≡ Verdicts.accepted v ⌝ }
-{
-    match v {
-        Verdict::Accepted => true,
-        Verdict::BadSize => false,
-        Verdict::NoProcess => false,
-        Verdict::AlreadySent => false,
-        Verdict::TooFarAhead => false,
-        Verdict::NothingInTransit => false,
-        Verdict::NotSentToAll => false,
-        Verdict::LastRound => false,
-        Verdict::TooManyEvents => false,
-        Verdict::WrongCount => false,
-    }
 }
 
 // ---- a send

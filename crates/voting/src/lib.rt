@@ -1,6 +1,5 @@
 // UniformVoting by value: what a process holds, what its messages carry, and the rule over a tally of what it heard.
 // A tally is made of the messages one by one, in any order; what it holds does not grow with their number.
-ghost use Prim.Native.Nat.{min};
 ghost use mathlib.Core.Path.{_≡_};
 ghost use mathlib.Core.List.{List, [], _∷_};
 ghost use Rattle.voting.specs.Voting as Rule;
@@ -25,19 +24,15 @@ pub struct Holding {
     pub decision: Choice,
 }
 
-// What some choices have in common: there are none yet, all are present and the same, or not so.
-pub enum Common {
-    Nothing,
-    All(u32),
-    Mixed,
-}
-
-// What a process has heard this round: the least value and the least vote, and what the values and the votes have in common.
+// What a process has heard this round: whether anything, the least value, and whether all values are the same; whether any vote,
+// the least vote, and whether every message had a vote and all were the same.
 pub struct Tally {
-    pub least: Choice,
-    pub values: Common,
-    pub least_vote: Choice,
-    pub votes: Common,
+    pub heard: bool,
+    pub least: u32,
+    pub same: bool,
+    pub voted: bool,
+    pub least_vote: u32,
+    pub agreed: bool,
 }
 
 // Nothing was heard.
@@ -45,10 +40,12 @@ pub fn silence() -> Tally
     ensures { λ r. ⌜ r ≡ Tallies.tally [] ⌝ }
 {
     Tally {
-        least: Choice::Absent,
-        values: Common::Nothing,
-        least_vote: Choice::Absent,
-        votes: Common::Nothing,
+        heard: false,
+        least: 0,
+        same: true,
+        voted: false,
+        least_vote: 0,
+        agreed: true,
     }
 }
 
@@ -57,17 +54,44 @@ pub fn hear(t: Tally, m: Message) -> Tally
     ensures exact { λ r. ⌜ r ≡ Tallies.hear t m ⌝ }
     ensures meaning { λ r. ⌜ ((ms : List Message) → t ≡ Tallies.tally ms → r ≡ Tallies.tally (m ∷ ms)) ⌝ }
 {
-    let value = Choice::Present(m.value);
+    let least = lesser(t.heard, t.least, m.value);
+    let same = still(t.heard, t.same, t.least, m.value);
     let vote = m.vote;
-    let least = t.least;
-    let values = t.values;
-    let least_vote = t.least_vote;
-    let votes = t.votes;
-    Tally {
-        least: lesser(least, value),
-        values: joined(values, value),
-        least_vote: lesser(least_vote, vote),
-        votes: joined(votes, vote),
+    match vote {
+        Choice::Absent => Tally {
+            heard: true,
+            least,
+            same,
+            voted: t.voted,
+            least_vote: t.least_vote,
+            agreed: false,
+        },
+        Choice::Present(x) => Tally {
+            heard: true,
+            least,
+            same,
+            voted: true,
+            least_vote: lesser(t.voted, t.least_vote, x),
+            agreed: still(t.voted, t.agreed, t.least_vote, x),
+        },
+    }
+}
+
+// The smaller of a and b; b where there is no a yet.
+fn lesser(some: bool, a: u32, b: u32) -> u32
+    ensures { λ r. ⌜ r ≡ Tallies.lesser some a b ⌝ }
+{
+    if some { if a < b { a } else { b } } else { b }
+}
+
+// Whether all are still the same, with b beside some of which a is the least, or beside none yet.
+fn still(some: bool, same: bool, a: u32, b: u32) -> bool
+    ensures { λ r. ⌜ r ≡ Tallies.still some same a b ⌝ }
+{
+    if some {
+        if same { a == b } else { false }
+    } else {
+        same
     }
 }
 
@@ -87,13 +111,11 @@ pub fn rule(round: u32, own: Holding, t: Tally) -> Holding
 fn odd_rule(own: Holding, t: Tally) -> Holding
     ensures { λ r. ⌜ r ≡ Tallies.oddTally own t ⌝ }
 {
-    let least = t.least;
-    let values = t.values;
     let vote = own.vote;
     let decision = own.decision;
     Holding {
-        value: value_or(least, own.value),
-        vote: or_else(shared(values), vote),
+        value: value_or(t.heard, t.least, own.value),
+        vote: choice_or(t.heard, t.same, t.least, vote),
         decision,
     }
 }
@@ -102,80 +124,29 @@ fn odd_rule(own: Holding, t: Tally) -> Holding
 fn even_rule(own: Holding, t: Tally) -> Holding
     ensures { λ r. ⌜ r ≡ Tallies.evenTally own t ⌝ }
 {
-    let least = t.least;
-    let least_vote = t.least_vote;
-    let votes = t.votes;
     let decision = own.decision;
+    let value = value_or(t.heard, t.least, own.value);
     Holding {
-        value: value_or(least_vote, value_or(least, own.value)),
+        value: value_or(t.voted, t.least_vote, value),
         vote: Choice::Absent,
-        decision: or_else(shared(votes), decision),
+        decision: choice_or(t.voted, t.agreed, t.least_vote, decision),
     }
 }
 
-// The first, or the second where the first is absent.
-fn or_else(c: Choice, d: Choice) -> Choice
-    ensures { λ r. ⌜ r ≡ Rule.orElse c d ⌝ }
+// The least, or y where there is none.
+fn value_or(some: bool, least: u32, y: u32) -> u32
+    ensures { λ r. ⌜ r ≡ Tallies.valueOr some least y ⌝ }
 {
-    match c {
-        Choice::Absent => d,
-        Choice::Present(x) => Choice::Present(x),
-    }
+    if some { least } else { y }
 }
 
-// The choice, or the value y where it is absent.
-fn value_or(c: Choice, y: u32) -> u32
-    ensures { λ r. ⌜ r ≡ Rule.valueOr c y ⌝ }
+// The least where there is one and all are the same as it, else the choice c.
+fn choice_or(some: bool, same: bool, least: u32, c: Choice) -> Choice
+    ensures { λ r. ⌜ r ≡ Tallies.choiceOr some same least c ⌝ }
 {
-    match c {
-        Choice::Absent => y,
-        Choice::Present(x) => x,
-    }
-}
-
-// The lesser of what is present.
-fn lesser(a: Choice, b: Choice) -> Choice
-    ensures { λ r. ⌜ r ≡ Rule.lesser a b ⌝ }
-{
-    match a {
-        Choice::Absent => b,
-        Choice::Present(x) => match b {
-            Choice::Absent => a,
-            Choice::Present(y) => Choice::Present(smaller(x, y)),
-        },
-    }
-}
-
-fn smaller(x: u32, y: u32) -> u32
-    ensures { λ r. ⌜ r ≡ min x y ⌝ }
-{
-    if x < y { x } else { y }
-}
-
-// What the choices have in common with one more beside them.
-fn joined(common: Common, c: Choice) -> Common
-    ensures { λ r. ⌜ r ≡ Tallies.joined common c ⌝ }
-{
-    match common {
-        Common::Nothing => match c {
-            Choice::Absent => Common::Mixed,
-            Choice::Present(x) => Common::All(x),
-        },
-        Common::All(y) => match c {
-            Choice::Absent => Common::Mixed,
-            Choice::Present(x) => if y == x { common } else { Common::Mixed },
-        },
-        Common::Mixed => Common::Mixed,
-    }
-}
-
-// What all of them are.
-fn shared(common: Common) -> Choice
-    ensures { λ r. ⌜ r ≡ Tallies.shared common ⌝ }
-{
-    match common {
-        Common::Nothing => Choice::Absent,
-        Common::All(x) => Choice::Present(x),
-        Common::Mixed => Choice::Absent,
+    if some {
+        if same { Choice::Present(least) } else { c }
+    } else {
+        c
     }
 }

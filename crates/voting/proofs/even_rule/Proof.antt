@@ -11,18 +11,13 @@ value-or-requires c κs = search needs
 value-or-requires-2 : tie.Need-value-or-requires-2
 value-or-requires-2 c κs = search needs
 
-shared-requires : tie.Need-shared-requires
-shared-requires c κs = search needs
-
-or-else-requires : tie.Need-or-else-requires
-or-else-requires c κs = search needs
+choice-or-requires : tie.Need-choice-or-requires
+choice-or-requires c κs = search needs
 
 returns : tie.Need-returns
 unfolding evenTally
-returns c =
-    rw (c .before .before .value-or2 .ensures, c .before .before .before .value-or .ensures, c .or-else .ensures, c .before .shared .ensures)
+returns c = rw (c .before .value-or2 .ensures, c .before .before .value-or .ensures, c .choice-or .ensures)
 
 pub even-rule-spec : {M : Type 1} → statement M
 even-rule-spec =
-    tie.close
-    (tie.spec value-or-requires value-or-requires-2 shared-requires or-else-requires returns)
+    tie.close (tie.spec value-or-requires value-or-requires-2 choice-or-requires returns)
