@@ -36,13 +36,29 @@ fn show(run: &[u32; RUN], what: &[u8], p: u8) {
 // N = 0 and N = 17: 1. N = 16: accepted. Process number 16 there: 2.
 fn example_10(run: &mut [u32; RUN]) {
     let values = [9u32; 17];
-    say(b"10. N = 0: ", machine::number(machine::begin(&mut *run, 0, &values[..0])));
-    say(b"10. N = 17: ", machine::number(machine::begin(&mut *run, 17, &values[..17])));
-    say(b"10. N = 16 with 17 values: ", machine::number(machine::begin(&mut *run, 16, &values[..17])));
-    say(b"10. N = 16: ", machine::number(machine::begin(&mut *run, 16, &values[..16])));
+    say(
+        b"10. N = 0: ",
+        machine::number(machine::begin(&mut *run, 0, &values[..0])),
+    );
+    say(
+        b"10. N = 17: ",
+        machine::number(machine::begin(&mut *run, 17, &values[..17])),
+    );
+    say(
+        b"10. N = 16 with 17 values: ",
+        machine::number(machine::begin(&mut *run, 16, &values[..17])),
+    );
+    say(
+        b"10. N = 16: ",
+        machine::number(machine::begin(&mut *run, 16, &values[..16])),
+    );
     put(&mut *run, b"10. send from 15 to 15: ", Event::Send(15, 15));
     put(&mut *run, b"10. send from 15 to 16: ", Event::Send(15, 16));
-    put(&mut *run, b"10. receive by 16 from 15: ", Event::Receive(16, 15));
+    put(
+        &mut *run,
+        b"10. receive by 16 from 15: ",
+        Event::Receive(16, 15),
+    );
     put(&mut *run, b"10. step of 16: ", Event::Step(16));
     put(&mut *run, b"10. broadcast of 16: ", Event::Broadcast(16));
     say(b"10. accepted events: ", machine::events(&*run));
@@ -52,14 +68,34 @@ fn example_10(run: &mut [u32; RUN]) {
 fn example_11(run: &mut [u32; RUN]) {
     let values = [7u32, 4];
     machine::begin(&mut *run, 2, &values[..]);
-    put(&mut *run, b"11. broadcast of 1 at round 1: ", Event::Broadcast(1));
+    put(
+        &mut *run,
+        b"11. broadcast of 1 at round 1: ",
+        Event::Broadcast(1),
+    );
     put(&mut *run, b"11. step of 1: ", Event::Step(1));
-    put(&mut *run, b"11. broadcast of 1 at round 2: ", Event::Broadcast(1));
-    put(&mut *run, b"11. receive by 1 from 1: ", Event::Receive(1, 1));
+    put(
+        &mut *run,
+        b"11. broadcast of 1 at round 2: ",
+        Event::Broadcast(1),
+    );
+    put(
+        &mut *run,
+        b"11. receive by 1 from 1: ",
+        Event::Receive(1, 1),
+    );
     show(&*run, b"11. round, S, C, P, I of 1:", 1);
-    put(&mut *run, b"11. send from 0 at round 1 to 1 at round 2: ", Event::Send(0, 1));
+    put(
+        &mut *run,
+        b"11. send from 0 at round 1 to 1 at round 2: ",
+        Event::Send(0, 1),
+    );
     show(&*run, b"11. round, S, C, P, I of 1:", 1);
-    put(&mut *run, b"11. receive by 1 from 0: ", Event::Receive(1, 0));
+    put(
+        &mut *run,
+        b"11. receive by 1 from 0: ",
+        Event::Receive(1, 0),
+    );
     put(&mut *run, b"11. send from 0 to 0: ", Event::Send(0, 0));
     show(&*run, b"11. round, S, C, P, I of 1:", 1);
 }
@@ -71,7 +107,11 @@ fn example_12(run: &mut [u32; RUN]) {
     put(&mut *run, b"12. send from 0 to 1: ", Event::Send(0, 1));
     put(&mut *run, b"12. broadcast of 0: ", Event::Broadcast(0));
     say(b"12. accepted events: ", machine::events(&*run));
-    put(&mut *run, b"12. receive by 0 from 0: ", Event::Receive(0, 0));
+    put(
+        &mut *run,
+        b"12. receive by 0 from 0: ",
+        Event::Receive(0, 0),
+    );
     put(&mut *run, b"12. send from 0 to 0: ", Event::Send(0, 0));
 }
 

@@ -110,6 +110,19 @@ begin-means m n xs v a given =
     let yes-it-is = accepted-is (openVerdict n (length xs)) a in
     rw yes-it-is (opening-shows n xs v (opens-right n (length xs) yes-it-is .most) given)
 
+-- ---- a refusal leaves every word as it was, whatever the memory holds; an accepted opening leaves none
+pub refused-unchanged : (m : Mem) (e : Event) → accepted (verdict (controlOf m) e) ≡ false → applied m e ≡ m
+unfolding applied ifAccepted
+refused-unchanged m e a = rw a
+
+pub begin-refused : (m : Mem) (n : ℕ) (xs : List ℕ) → accepted (openVerdict n (length xs)) ≡ false → begins m n xs ≡ m
+unfolding begins ifAccepted
+begin-refused m n xs a = rw a
+
+pub begin-anew : (m b : Mem) (n : ℕ) (xs : List ℕ) → accepted (openVerdict n (length xs)) ≡ true → begins m n xs ≡ begins b n xs
+unfolding begins ifAccepted
+begin-anew m b n xs a = rw a
+
 -- ---- the promises of the calls: what is exact, and with it what that means
 -- a call that answers with a verdict
 pub judged-meant : (m : Mem) (e : Event) → answer (controlOf m) e ≡ Judged (verdict (controlOf m) e) → {r : Verdict} {b : Mem}

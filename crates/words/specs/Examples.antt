@@ -6,18 +6,18 @@ use mathlib.Core.List.{List, [], _∷_, _++_}
 use lib.ListN.{length}
 use Rattle.rounds.specs.declared.Event.{Event}
 use Rattle.rounds.specs.declared.Event.the-variants.{Send, Receive, Step, Broadcast}
-use Rattle.rounds.specs.Verdicts.{numberOf}
+use Rattle.rounds.specs.Verdicts.{numberOf, openVerdict}
 use Rattle.rounds.specs.Run.{Config}
-use Rattle.rounds.specs.Examples.{run, equal, numbers, hears, roundOfTwo, roundOfThree, alone, sevenAndFour, sevenFourTwo, oneOneZero, apart, together, split, whole, trace1, overtaken}
+use Rattle.rounds.specs.Examples.{run, equal, numbers, lines, steps, hears, roundOfTwo, roundOfThree, alone, sevenAndFour, sevenFourTwo, oneOneZero, apart, together, split, whole, trace1, overtaken}
 use Rattle.words.specs.declared.Standing.{Standing}
 use Rattle.words.specs.Layout.{Mem, get, put}
 use Rattle.words.specs.Spelled.{word, choice, flagOf, wordOf, people, siteOf, holdingOf, messageOf, carriedOf, controlOf, countOf}
-use Rattle.words.specs.Calls.{blank, placed, placedBelow, opened, counted, settled, begun, fate, marked, posted, delivered, sent, taken, received, messagesBelow, reachBelow, held, advanced, stepped, sentBelow, done, applied, answer, nobody, standingOf}
-use Rattle.words.specs.Shows.{verdictOf, standing}
+use Rattle.words.specs.Calls.{blank, placed, placedBelow, opened, begins, counted, settled, begun, fate, marked, posted, delivered, sent, taken, received, messagesBelow, reachBelow, held, advanced, stepped, sentBelow, done, applied, answer, nobody, standingOf}
+use Rattle.words.specs.Shows.{verdictOf, actor, reported, standing}
 
 -- the memory after the events. To unfold it is to unfold the whole machine in memory: its `unfolding` line names all of it
 unfoldable pub memory : Mem → List Event → Mem
-unfolding run get put word choice flagOf wordOf people siteOf holdingOf messageOf carriedOf controlOf countOf blank placed placedBelow opened counted settled begun fate marked posted delivered sent taken received messagesBelow reachBelow held advanced stepped sentBelow done applied answer nobody standingOf verdictOf standing
+unfolding run openVerdict get put word choice flagOf wordOf people siteOf holdingOf messageOf carriedOf controlOf countOf blank placed placedBelow opened begins counted settled begun fate marked posted delivered sent taken received messagesBelow reachBelow held advanced stepped sentBelow done applied answer nobody standingOf verdictOf actor reported standing
 memory m [] = m
 memory m (e ∷ es) = memory (applied m e) es
 
@@ -25,6 +25,11 @@ memory m (e ∷ es) = memory (applied m e) es
 unfoldable pub answers : Mem → List Event → List ℕ
 answers m [] = []
 answers m (e ∷ es) = numberOf (verdictOf (answer (controlOf m) e)) ∷ answers (applied m e) es
+
+-- the process, round and set of each report
+unfoldable pub told : Mem → List Event → List ℕ
+told m [] = []
+told m (e ∷ es) = lines (reported e (answer (controlOf m) e)) ++ told (applied m e) es
 
 -- all that is shown of a process, as numbers
 abbrev pub figures : Standing → List ℕ
@@ -36,39 +41,50 @@ abbrev pub alike : ℕ → Mem → Config → Bool
 alike zero m c = true
 alike (suc p) m c = alike p m c && equal (figures (standingOf m p)) (figures (standing c p))
 
--- the run of these events from these values: the same answers, and the same figures of every process; of one more, none
+-- the run of these events from these values: the same answers and reports, and the same figures of every process; of one more, none
 abbrev pub agrees : List ℕ → List Event → Bool
 agrees xs es =
     let m = opened (length xs) xs in
     equal (answers m es) (numbers xs es)
+    && equal (told m es) (steps xs es)
     && alike (length xs) (memory m es) (run xs es)
     && equal (figures (standingOf (memory m es) (length xs))) (figures nobody)
 
+-- an opening that is refused, for its size or for its values, leaves a run as it was
+abbrev pub opensNot : ℕ → List ℕ → Bool
+opensNot n xs =
+    let m = memory (opened 2 sevenAndFour) trace1 in
+    let b = begins m n xs in
+    equal (figures (standingOf b 0)) (figures (standingOf m 0)) && equal (figures (standingOf b 1)) (figures (standingOf m 1))
+
 -- document 01's starred examples
 unfoldable pub starred : List Bool
-unfolding memory answers numbers
+unfolding memory answers told numbers steps
 starred =
     agrees sevenAndFour trace1
-    ∷ agrees oneOneZero (split ++ whole ++ whole ++ whole)
-    ∷ agrees sevenAndFour (apart ++ apart ++ together ++ together ++ together ++ together)
+    ∷ agrees oneOneZero (split ++ whole)
+    ∷ agrees sevenAndFour (apart ++ apart ++ together ++ together)
     ∷ agrees sevenAndFour (apart ++ roundOfTwo (0 ∷ 1 ∷ []) (1 ∷ []))
     ∷ agrees sevenAndFour (Broadcast 0 ∷ Step 0 ∷ [])
     ∷ agrees sevenAndFour (alone 0 8 ++ (Send 0 1 ∷ []))
     ∷ agrees sevenAndFour (Send 1 0 ∷ Receive 0 1 ∷ Receive 0 1 ∷ Broadcast 0 ∷ Step 0 ∷ Receive 0 1 ∷ [])
     ∷ []
 
--- and those of our own: a sender that has gone on, its own message not received, late and early messages, silence in an even round, everyone heard,
--- a broadcast half refused, a slot of the window used again, and every refusal but the limits
+-- and those of our own: a sender that has gone on, its own message not received, late and early messages, silence in an even round, everyone heard and
+-- not everyone, a broadcast half refused, a slot of the window used again, every refusal but those of the limits, and openings that are refused
 unfoldable pub ours : List Bool
-unfolding memory answers numbers
+unfolding memory answers told numbers steps
 ours =
     agrees sevenFourTwo overtaken
     ∷ agrees (1 ∷ 4 ∷ []) (Broadcast 0 ∷ Broadcast 1 ∷ Receive 0 1 ∷ Step 0 ∷ [])
-    ∷ agrees sevenAndFour (Broadcast 1 ∷ Step 1 ∷ Send 0 1 ∷ Broadcast 1 ∷ [])
+    ∷ agrees sevenAndFour (alone 1 1 ++ (Send 0 1 ∷ alone 1 7) ++ (Receive 1 0 ∷ []))
     ∷ agrees sevenAndFour (alone 0 7 ++ (Send 0 1 ∷ []) ++ alone 1 7 ++ (Receive 1 0 ∷ []))
     ∷ agrees sevenAndFour (Broadcast 0 ∷ Receive 0 0 ∷ Step 0 ∷ Broadcast 0 ∷ Step 0 ∷ [])
     ∷ agrees sevenAndFour (Broadcast 0 ∷ Broadcast 1 ∷ Receive 0 0 ∷ Receive 0 1 ∷ Receive 1 0 ∷ Receive 1 1 ∷ [])
+    ∷ agrees sevenAndFour (Broadcast 0 ∷ Receive 0 0 ∷ Send 1 1 ∷ [])
     ∷ agrees sevenAndFour (Send 0 1 ∷ Broadcast 0 ∷ [])
     ∷ agrees sevenAndFour (Send 1 0 ∷ alone 0 8 ++ (Receive 0 1 ∷ Send 0 0 ∷ []))
     ∷ agrees sevenAndFour (alone 0 8 ++ (Send 0 0 ∷ Send 0 0 ∷ Send 0 1 ∷ Send 0 2 ∷ Receive 2 0 ∷ Step 2 ∷ Step 1 ∷ Broadcast 0 ∷ Broadcast 2 ∷ []))
+    ∷ opensNot 0 []
+    ∷ opensNot 2 (7 ∷ [])
     ∷ []
