@@ -13,7 +13,7 @@ fn say(what: &[u8], found: u32) {
 // Puts the event to the machine, and writes the number of its answer.
 fn put(run: &mut [u32; RUN], what: &[u8], e: Event) {
     let answer = machine::apply(&mut *run, e);
-    say(what, machine::number(machine::verdict(answer)));
+    say(what, rounds::number(words::verdict(answer)));
 }
 
 fn part(n: u32) {
@@ -38,19 +38,19 @@ fn example_10(run: &mut [u32; RUN]) {
     let values = [9u32; 17];
     say(
         b"10. N = 0: ",
-        machine::number(machine::begin(&mut *run, 0, &values[..0])),
+        rounds::number(machine::begin(&mut *run, 0, &values[..0])),
     );
     say(
         b"10. N = 17: ",
-        machine::number(machine::begin(&mut *run, 17, &values[..17])),
+        rounds::number(machine::begin(&mut *run, 17, &values[..17])),
     );
     say(
         b"10. N = 16 with 17 values: ",
-        machine::number(machine::begin(&mut *run, 16, &values[..17])),
+        rounds::number(machine::begin(&mut *run, 16, &values[..17])),
     );
     say(
         b"10. N = 16: ",
-        machine::number(machine::begin(&mut *run, 16, &values[..16])),
+        rounds::number(machine::begin(&mut *run, 16, &values[..16])),
     );
     put(&mut *run, b"10. send from 15 to 15: ", Event::Send(15, 15));
     put(&mut *run, b"10. send from 15 to 16: ", Event::Send(15, 16));

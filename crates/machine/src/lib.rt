@@ -15,7 +15,6 @@ ghost use mathlib.Core.Path.{_≡_};
 ghost use mathlib.Core.Bool.{cond};
 ghost use lib.ListN.{length};
 ghost use Rattle.sets.specs.Sets as Sets;
-ghost use Rattle.sets.specs.Sets.{has, union, members};
 ghost use Rattle.voting.specs.Tally as Tallies;
 ghost use Rattle.rounds.specs.declared.Event.the-variants.{Send, Receive, Step, Broadcast};
 ghost use Rattle.rounds.specs.Limits.{mostProcesses};
@@ -23,16 +22,15 @@ ghost use Rattle.rounds.specs.Run.{Config, opening};
 ghost use Rattle.rounds.specs.Stages as Stages;
 ghost use Rattle.rounds.specs.Verdicts as Verdicts;
 ghost use Rattle.rounds.specs.Verdicts.{verdict, sendVerdict, firstRefusal, openVerdict};
-ghost use Rattle.rounds.specs.Events.{messages, gathered};
 ghost use Rattle.rounds.specs.declared.Verdict.the-variants.{Accepted};
 ghost use Rattle.words.specs.declared.Answer.the-variants.{Judged};
 ghost use Rattle.words.specs.Layout as Layout;
 ghost use Rattle.words.specs.Layout.{get, put, Head, Line, Transit, Mail};
 ghost use Rattle.words.specs.Spelled as Spelled;
-ghost use Rattle.words.specs.Spelled.{word, flagOf, wordOf, holdingOf, messageOf, carriedOf, controlOf, countOf};
+ghost use Rattle.words.specs.Spelled.{word, flagOf, wordOf, holdingOf, messageOf, controlOf, countOf};
 ghost use Rattle.words.specs.Calls as Calls;
 ghost use Rattle.words.specs.Calls.{messagesBelow, reachBelow, applied, begins, answer, standingOf};
-ghost use Rattle.words.specs.Shows.{Shows, Meant, Given, verdictOf, standing};
+ghost use Rattle.words.specs.Shows.{Shows, Meant, Given, standing};
 
 // ---- the limits
 const MOST_PROCESSES: u32 = 16;
@@ -89,39 +87,11 @@ const COUNTS: usize = 10;
 
 const CARRIED: usize = 3;
 
-// ---- what an answer says
-// The verdict of an answer.
-pub fn verdict(a: Answer) -> Verdict
-    ensures { λ r. ⌜ r ≡ verdictOf a ⌝ }
-{
-    match a {
-        Answer::Judged(v) => v,
-        Answer::Finished(_, _) => Verdict::Accepted,
-    }
-}
-
-// The number that document 01 gives a verdict.
-pub fn number(v: Verdict) -> u32
-    ensures { λ r. ⌜ r ≡ Verdicts.numberOf v ⌝ }
-{
-    match v {
-        Verdict::Accepted => 0,
-        Verdict::BadSize => 1,
-        Verdict::NoProcess => 2,
-        Verdict::AlreadySent => 3,
-        Verdict::TooFarAhead => 4,
-        Verdict::NothingInTransit => 5,
-        Verdict::NotSentToAll => 6,
-        Verdict::LastRound => 7,
-        Verdict::TooManyEvents => 8,
-        Verdict::WrongCount => 11,
-    }
-}
-
+// ---- what a verdict says
 fn accepted(v: Verdict) -> bool
     ensures { λ r. ⌜ r ≡ Verdicts.accepted v ⌝ }
 {
-    number(v) == 0
+    rounds::number(v) == 0
 }
 
 // ---- one word
@@ -187,10 +157,10 @@ fn people(run: &[u32; RUN]) -> u32
     ensures { λ r. ⌜ (r ≡ Spelled.people (now (run .entry))) × (r ≤ mostProcesses) ⌝ }
 {
     let n = head(run, SIZE);
-    if MOST_PROCESSES < n {
-        return 0;
+    if n <= MOST_PROCESSES {
+        return n;
     }
-    n
+    0
 }
 
 fn choice(flag: u32, x: u32) -> Choice

@@ -1,4 +1,6 @@
-// The types that the round machine, its definitions and everything above it share. There is no code here: the machine that runs is a crate above.
+// The types that the round machine, its definitions and everything above it share, and the number of a verdict. The machine that runs is a crate above.
+ghost use mathlib.Core.Path.{_≡_};
+ghost use Rattle.rounds.specs.Verdicts.{numberOf};
 
 // What a process is at, judged just before each accepted event.
 pub enum Stage {
@@ -41,4 +43,22 @@ pub enum Verdict {
     TooManyEvents,
     // 11: the opening values are not N in number.
     WrongCount,
+}
+
+// The number that document 01 gives a verdict.
+pub fn number(v: Verdict) -> u32
+    ensures { λ r. ⌜ r ≡ numberOf v ⌝ }
+{
+    match v {
+        Verdict::Accepted => 0,
+        Verdict::BadSize => 1,
+        Verdict::NoProcess => 2,
+        Verdict::AlreadySent => 3,
+        Verdict::TooFarAhead => 4,
+        Verdict::NothingInTransit => 5,
+        Verdict::NotSentToAll => 6,
+        Verdict::LastRound => 7,
+        Verdict::TooManyEvents => 8,
+        Verdict::WrongCount => 11,
+    }
 }

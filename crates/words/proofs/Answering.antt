@@ -8,7 +8,7 @@ use mathlib.Core.List.{List, []}
 use Rattle.rounds.specs.declared.Event.{Event}
 use Rattle.rounds.specs.declared.Event.the-variants.{Send, Receive, Step, Broadcast}
 use Rattle.rounds.specs.declared.Verdict.{Verdict}
-use Rattle.rounds.specs.declared.Verdict.the-variants.{Accepted, NoProcess, TooManyEvents}
+use Rattle.rounds.specs.declared.Verdict.the-variants.{NoProcess, TooManyEvents}
 use Rattle.rounds.specs.Limits.{mostProcesses}
 use Rattle.rounds.specs.Run.{Control, Content}
 use Rattle.rounds.specs.Stages.{sentToAll}
@@ -16,7 +16,6 @@ use Rattle.rounds.specs.Verdicts.{accepted, refuse, outside, crowded, sendVerdi
 use Rattle.rounds.specs.Events.{ifAccepted}
 use Rattle.rounds.specs.Runs.{Report, reportOf, told}
 use Rattle.rounds.proofs.Answers.{is-accepted, inside, neither, allowed}
-use Rattle.words.specs.declared.Answer.{Answer}
 use Rattle.words.specs.declared.Answer.the-variants.{Judged, Finished}
 use Rattle.words.specs.Layout.{Mem}
 use Rattle.words.specs.Spelled.{controlOf}

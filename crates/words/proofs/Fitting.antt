@@ -1,6 +1,6 @@
 -- A configuration that a run reaches has room in its words: what the limits of every run come to here.
 -- Assumes nothing.
-use Prim.Native.Nat.{ℕ, _+_, _≤_, _<_}
+use Prim.Native.Nat.{ℕ, _+_, _≤_}
 use native.Mathlib.Omega.{arith}
 use mathlib.Core.Path.{_≡_, refl}
 use mathlib.Core.List.{List}
@@ -12,7 +12,7 @@ use Rattle.rounds.specs.Limits.{mostProcesses, window, lastRound, mostEvents}
 use Rattle.rounds.specs.Run.{Control, Content, openControl}
 use Rattle.rounds.specs.Runs.{Report}
 use Rattle.rounds.specs.Leads.{Reached}
-use Rattle.rounds.specs.Claims.{Live, total}
+use Rattle.rounds.specs.Claims.{total}
 use Rattle.rounds.specs.Claims.Live.{waiting, taken}
 use Rattle.rounds.proofs.Kept.{Kept, kept}
 use Rattle.rounds.proofs.Limits.{rounds-kept, events-kept, Window, window-kept, open-window, in-window, Within, within-kept, open-within}
@@ -43,14 +43,18 @@ module _ (n : ℕ) (v : ℕ → ℕ) {c : Control} {d : Content} {rs : List Repo
   pub window-of : Window c
   window-of = throughout Window window-kept (open-window n)
 
-  pub fit : c .size ≤ mostProcesses → Fit c
+  pub total-of : (x : ℕ) → total (c .count x) ≡ c .events
   unfolding openControl total
+  total-of = throughout (λ c. (x : ℕ) → total (c .count x) ≡ c .events) total-kept (λ x. refl)
+
+  pub fit : c .size ≤ mostProcesses → Fit c
+  unfolding openControl
   fit few =
       record {
         few = few;
         near = near c few window-of (throughout Within within-kept (open-within n));
         room = throughout (λ c. c .events ≤ mostEvents) events-kept (omega arith);
-        small = λ x. part (c .count x) (c .events) (throughout (λ c. (x : ℕ) → total (c .count x) ≡ c .events) total-kept (λ x. refl) x);
+        small = λ x. part (c .count x) (c .events) (total-of x);
       }
 
   pub round-top : (x : ℕ) → c .site x .round ≤ lastRound

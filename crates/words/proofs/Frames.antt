@@ -1,12 +1,11 @@
 -- What words show of a process where neither its words nor what the configuration holds of it change; and so what a change that is about
 -- one process alone leaves of all the others. Assumes nothing.
-use Prim.Native.Nat.{ℕ, _+_, _-_, _*_, _≤_, _<_}
+use Prim.Native.Nat.{ℕ, _+_, _-_, _≤_, _<_}
 use native.Mathlib.Omega.{arith}
 use native.Mathlib.Decide.{ℕ-discrete}
 use mathlib.Core.Path.{_≡_, refl, sym, ap, _∙_, subst}
 use mathlib.Core.Bool.{true}
 use mathlib.Core.List.{List}
-use lib.ListN.{length}
 use lib.Dec.{lit<, lit≤}
 use Rattle.sets.specs.Sets.{has}
 use Rattle.rounds.specs.declared.Stage.{Stage}
@@ -16,7 +15,7 @@ use Rattle.rounds.specs.Run.{Site, Control, Content}
 use Rattle.rounds.specs.Stages.{sentToAll, heardFromAll, waited, stage, index, one}
 use Rattle.rounds.specs.Claims.{Live}
 use Rattle.rounds.specs.Claims.Live.{waiting, taken}
-use Rattle.words.specs.Layout.{Mem, line, letter, Place, Head, Line, Transit, Mail, get, Write, writes, SIZE, EVENTS, VALUE, VOTED, VOTE, DECIDED, DECISION, ROUND, SENT, HEARD, REACH, SINCE, COUNTS, CARRIED}
+use Rattle.words.specs.Layout.{Mem, line, letter, Place, Line, Transit, Mail, get, Write, writes, SIZE, EVENTS, VALUE, VOTED, VOTE, DECIDED, DECISION, ROUND, SENT, HEARD, REACH, SINCE, COUNTS, CARRIED}
 use Rattle.words.specs.Spelled.{siteOf, holdingOf, messageOf, carriedOf}
 use Rattle.words.specs.Shows.{ShowsProcess, Shown}
 use Rattle.words.proofs.Places.{In, Of, Inside, AllOf, others-kept, head-kept, writes-length}

@@ -3,20 +3,17 @@
 -- Assumes nothing.
 use Prim.Native.Nat.{ℕ, zero, suc, _≤_, _<_}
 use native.Mathlib.Omega.{arith}
-use mathlib.Core.Path.{_≡_, refl, sym, ap, _∙_, subst}
+use mathlib.Core.Path.{_≡_, refl, sym, _∙_, subst}
 use mathlib.Core.Bool.{Bool, true, false, cond}
 use mathlib.Core.List.{List, [], _++_}
-use lib.Dec.{leb}
 use lib.ListN.{length}
-use borrow.Author.Tests.{lt-leb}
-use Rattle.rounds.specs.declared.Stage.{Stage}
 use Rattle.rounds.specs.declared.Event.{Event}
 use Rattle.rounds.specs.declared.Event.the-variants.{Send, Receive, Step, Broadcast}
 use Rattle.rounds.specs.declared.Verdict.{Verdict}
 use Rattle.rounds.specs.declared.Verdict.the-variants.{Accepted}
 use Rattle.rounds.specs.Limits.{mostProcesses}
 use Rattle.rounds.specs.Run.{Control, Content, Config, openControl, opening}
-use Rattle.rounds.specs.Stages.{stage, one, index}
+use Rattle.rounds.specs.Stages.{one}
 use Rattle.rounds.specs.Verdicts.{accepted, openVerdict, verdict}
 use Rattle.rounds.specs.Events.{sendsControl, sendsContent, nextControl, nextContent, ifAccepted, apply}
 use Rattle.rounds.specs.Runs.{Report, told}
@@ -35,7 +32,7 @@ use Rattle.words.specs.Layout.{Mem, get, Head, EVENTS}
 use Rattle.words.specs.Spelled.{people, controlOf}
 use Rattle.words.specs.Calls.{opened, begins, sentBelow, done, applied, answer, standingOf}
 use Rattle.words.specs.Shows.{Shown, Shows, Meant, Given, standing}
-use Rattle.words.proofs.Settling.{Fit, people-shown}
+use Rattle.words.proofs.Settling.{people-shown}
 use Rattle.words.proofs.Sending.{sent-shows}
 use Rattle.words.proofs.Receiving.{received-shows}
 use Rattle.words.proofs.Stepping.{stepped-shows}

@@ -3,17 +3,17 @@
 use Prim.Native.Nat.{ℕ, zero, suc, _+_, _≤_, _<_}
 use native.Mathlib.Omega.{arith}
 use native.Mathlib.Decide.{ℕ-discrete}
-use mathlib.Core.Path.{_≡_, refl, sym, ap, _∙_, subst}
+use mathlib.Core.Path.{_≡_, refl, sym, _∙_, subst}
 use mathlib.Core.List.{List, [], _∷_}
 use lib.Dec.{lit<, lit≤}
-use lib.ListN.{getD, length, replicate, length-replicate, getD-replicate}
+use lib.ListN.{getD, length, length-replicate, getD-replicate}
 use Rattle.sets.specs.Sets.{empty, with}
 use Rattle.voting.specs.Voting.{opens}
 use Rattle.rounds.specs.Limits.{mostProcesses}
 use Rattle.rounds.specs.Run.{openControl, openContent}
-use Rattle.rounds.specs.Stages.{index, stage, one}
+use Rattle.rounds.specs.Stages.{index, one}
 use Rattle.rounds.proofs.Live.{open-silent}
-use Rattle.words.specs.Layout.{Mem, RUN, heads, line, Place, Head, Line, Transit, Mail, at, get, Write, _:=_, writes, SIZE, EVENTS, VALUE, VOTED, DECIDED, ROUND, SENT, HEARD, REACH, SINCE, COUNTS}
+use Rattle.words.specs.Layout.{Mem, RUN, heads, line, Place, Head, Line, Transit, at, get, Write, _:=_, writes, SIZE, EVENTS, VALUE, VOTED, DECIDED, ROUND, SENT, HEARD, REACH, SINCE, COUNTS}
 use Rattle.words.specs.Spelled.{choice, siteOf, holdingOf}
 use Rattle.words.specs.Calls.{blank, placed, placedBelow, opened}
 use Rattle.words.specs.Shows.{ShowsProcess, Shown, Given}

@@ -7,7 +7,7 @@ use mathlib.Core.List.{List, [], _∷_}
 use lib.ListN.{getD, length, drop, length-set}
 use lib.Seq.{getD-set-same, getD-set-other}
 use Rattle.rounds.specs.Limits.{mostProcesses, window}
-use Rattle.words.specs.Layout.{Mem, RUN, heads, line, letter, transitAt, mailAt, Place, Head, Line, Transit, Mail, at, get, put, Write, _:=_, writes}
+use Rattle.words.specs.Layout.{Mem, RUN, heads, line, letter, transitAt, Place, Head, Line, Transit, Mail, at, get, put, Write, _:=_, writes}
 
 -- ---- places
 -- a place of a run, with its process numbers below the most

@@ -1,23 +1,20 @@
 -- What is read of a memory that shows a configuration: its size, its events, and all that is shown of a process.
 -- Assumes nothing.
-use Prim.Native.Nat.{ℕ, _+_, _-_, _*_, _≤_, _<_, _^_}
+use Prim.Native.Nat.{ℕ, _+_, _-_, _<_}
 use native.Mathlib.Omega.{arith}
-use mathlib.Core.Path.{_≡_, refl, sym, ap, _∙_}
-use lib.Dec.{leb}
+use mathlib.Core.Path.{_≡_}
 use borrow.Author.Tests.{lt-leb}
-use Rattle.voting.specs.declared.Holding.{Holding}
 use Rattle.rounds.specs.declared.Stage.{Stage}
 use Rattle.rounds.specs.declared.Stage.the-variants.{Sending, Collecting, Pending, Idle}
-use Rattle.rounds.specs.Limits.{mostEvents}
 use Rattle.rounds.specs.Run.{Config}
-use Rattle.rounds.specs.Stages.{index, one}
+use Rattle.rounds.specs.Claims.{total}
 use Rattle.words.specs.Layout.{Mem, Head, get, EVENTS}
-use Rattle.words.specs.Spelled.{word, people, holdingOf, countOf}
+use Rattle.words.specs.Spelled.{word, people, countOf}
 use Rattle.words.specs.Calls.{standingOf}
 use Rattle.words.specs.Shows.{Shows, standing}
 use Rattle.words.proofs.Settling.{Fit, word-fits, people-shown, stage-shown}
 use Rattle.words.proofs.Sending.{round-word, reach-word}
-use Rattle.words.proofs.Fitting.{fit}
+use Rattle.words.proofs.Fitting.{fit, total-of}
 
 module _ (m : Mem) (c : Config) (k : Shows m c) where
   pub size-means : people m ≡ c .control .size
@@ -51,3 +48,9 @@ module _ (m : Mem) (c : Config) (k : Shows m c) where
         count-shown p Pending h,
         count-shown p Idle h,
       )
+
+  -- the four counts that are shown of a process add up to the accepted events
+  pub counts-add-up : (p : ℕ) → p < c .control .size
+      → standing c p .sending + standing c p .collecting + standing c p .pending + standing c p .idle ≡ c .control .events
+  unfolding standing total
+  counts-add-up p h = total-of (c .control .size) (k .values) (k .reached) p

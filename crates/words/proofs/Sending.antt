@@ -1,8 +1,8 @@
 -- A send in two changes, each of one process: the sender's set gains the receiver; and, where the message is kept, it is put in the receiver's
 -- mail. What the words show after each, and after an accepted send. Assumes nothing.
-use Prim.Native.Nat.{ℕ, suc, _+_, _%_, _≤_, _<_}
+use Prim.Native.Nat.{ℕ, _+_, _%_, _≤_, _<_}
 use native.Mathlib.Omega.{arith}
-use mathlib.Core.Path.{_≡_, refl, sym, ap, _∙_, subst}
+use mathlib.Core.Path.{_≡_, refl, sym, ap, _∙_}
 use mathlib.Core.Logic.{_⊎_, inl, inr, ⊎-elim}
 use mathlib.Core.Bool.{Bool, true, false, cond}
 use mathlib.Core.List.{List, [], _∷_}
@@ -11,7 +11,7 @@ use Rattle.sets.specs.Sets.{has, with}
 use Rattle.sets.proofs.Membership.{with-cases}
 use Rattle.voting.specs.declared.Message.{Message}
 use Rattle.voting.specs.Voting.{message}
-use Rattle.rounds.specs.Limits.{mostProcesses, window, mostEvents}
+use Rattle.rounds.specs.Limits.{mostProcesses, window}
 use Rattle.rounds.specs.Run.{Site, Control, Content, at₂, at₃, at}
 use Rattle.rounds.specs.Stages.{index, tick}
 use Rattle.rounds.specs.Verdicts.{ahead}
@@ -21,14 +21,13 @@ use Rattle.rounds.specs.Claims.{Live}
 use Rattle.rounds.specs.Claims.Live.{waiting, taken}
 use Rattle.rounds.proofs.Updates.{at-one, at-each, at-same, at-other, at₂-one}
 use Rattle.rounds.proofs.Limits.{timely-lead}
-use Rattle.words.specs.declared.Fate.{Fate}
 use Rattle.words.specs.declared.Fate.the-variants.{Discarded, Kept, Refused}
 use Rattle.words.specs.Layout.{Mem, line, letter, Line, Transit, Mail, get, Write, _:=_, writes, VALUE, VOTED, VOTE, ROUND, SENT, HEARD, REACH, SINCE, COUNTS, CARRIED}
 use Rattle.words.specs.Spelled.{choice, siteOf, holdingOf, messageOf, carriedOf}
 use Rattle.words.specs.Calls.{settled, begun, fate, marked, posted, delivered, sent}
 use Rattle.words.specs.Shows.{ShowsProcess, Shown}
 use Rattle.words.proofs.Places.{Inside, kept, wrote}
-use Rattle.words.proofs.Frames.{index-small, Near, holding-kept, site-kept, message-kept, carried-kept, Alike, changed}
+use Rattle.words.proofs.Frames.{index-small, holding-kept, site-kept, message-kept, carried-kept, changed}
 use Rattle.words.proofs.Settling.{Fit, tick-fit, unstaged, settled-shows, settled-since, since-stays, begun-shows}
 
 -- ---- the sender's set gains the receiver

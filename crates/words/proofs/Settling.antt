@@ -1,22 +1,22 @@
 -- One more event, and a process settled: the words that count it, and what they then show.
 -- Assumes nothing.
-use Prim.Native.Nat.{ℕ, suc, _+_, _-_, _*_, _%_, _^_, _≤_, _<_}
+use Prim.Native.Nat.{ℕ, suc, _+_, _-_, _*_, _^_, _≤_, _<_}
 use native.Mathlib.Omega.{arith}
 use native.Mathlib.Decide.{ℕ-discrete}
 use native.Mathlib.Nat.{mod-eq-of-lt}
 use mathlib.Core.Path.{_≡_, refl, sym, ap, _∙_, subst}
 use mathlib.Core.Bool.{Bool, true, false, cond}
 use mathlib.Core.List.{List, [], _∷_}
-use lib.Dec.{eqb, ltb, lit<, lit≤}
+use lib.Dec.{eqb, lit<, lit≤}
 use borrow.Author.Tests.{eq-eqb, ne-eqb, le-ltb}
 use Rattle.rounds.specs.declared.Stage.{Stage}
-use Rattle.rounds.specs.Limits.{mostProcesses, window, mostEvents}
+use Rattle.rounds.specs.Limits.{mostProcesses, mostEvents}
 use Rattle.rounds.specs.Run.{Control, Content}
 use Rattle.rounds.specs.Stages.{sentToAll, heardFromAll, waited, stage, index, one, tick}
 use Rattle.rounds.specs.Claims.{Live}
 use Rattle.rounds.specs.Claims.Live.{waiting, taken}
 use Rattle.words.specs.Layout.{Mem, Head, Line, Transit, Mail, get, Write, _:=_, writes, SIZE, EVENTS, SINCE, COUNTS}
-use Rattle.words.specs.Spelled.{word, people, siteOf, controlOf}
+use Rattle.words.specs.Spelled.{word, people, controlOf}
 use Rattle.words.specs.Calls.{counted, settled, begun}
 use Rattle.words.specs.Shows.{ShowsProcess, Shown}
 use Rattle.words.proofs.Places.{Inside, kept, wrote, writes-length, head-only}

@@ -1,15 +1,14 @@
 -- What the words show after an accepted step, in two changes of one process: what it holds, by the voting rule on what it heard; and its round,
 -- with what is in transit for the round that ended gone. Assumes nothing.
-use Prim.Native.Nat.{ℕ, suc, _+_, _%_, _≤_, _<_}
+use Prim.Native.Nat.{ℕ, suc, _+_, _≤_, _<_}
 use native.Mathlib.Omega.{arith}
 use native.Mathlib.Decide.{ℕ-discrete}
 use native.Mathlib.Numerals.{add-one}
 use mathlib.Core.Path.{_≡_, refl, sym, ap, _∙_}
-use mathlib.Core.Bool.{true}
 use mathlib.Core.List.{List, [], _∷_}
-use lib.Dec.{lit<, ltb}
+use lib.Dec.{lit<}
 use borrow.Author.Tests.{le-ltb}
-use Rattle.sets.specs.Sets.{empty, has, members}
+use Rattle.sets.specs.Sets.{empty, members}
 use Rattle.voting.specs.declared.Choice.{Choice}
 use Rattle.voting.specs.declared.Choice.the-variants.{Absent, Present}
 use Rattle.voting.specs.declared.Holding.{Holding}
@@ -17,19 +16,19 @@ use Rattle.voting.specs.Voting.{rule}
 use Rattle.rounds.specs.Limits.{window, lastRound}
 use Rattle.rounds.specs.Run.{Site, Control, Content, at}
 use Rattle.rounds.specs.Stages.{index, tick}
-use Rattle.rounds.specs.Events.{gathered, messages, heardBy, from, stepControl, stepContent}
+use Rattle.rounds.specs.Events.{messages, heardBy, from, stepControl, stepContent}
 use Rattle.rounds.specs.Allowed.{Steps}
 use Rattle.rounds.specs.Claims.{Live}
 use Rattle.rounds.specs.Claims.Live.{taken}
 use Rattle.rounds.proofs.Updates.{at-same, at-other}
 use Rattle.rounds.proofs.Live.{live-step}
 use Rattle.rounds.proofs.Effects.{step-votes, step-reaches}
-use Rattle.words.specs.Layout.{Mem, Line, Transit, Mail, get, Write, _:=_, writes, VALUE, VOTED, VOTE, DECIDED, DECISION, ROUND, SENT, HEARD, REACH, SINCE, COUNTS}
+use Rattle.words.specs.Layout.{Mem, line, Line, Transit, Mail, get, Write, _:=_, writes, VALUE, VOTED, VOTE, DECIDED, DECISION, ROUND, SENT, HEARD, REACH, SINCE, COUNTS}
 use Rattle.words.specs.Spelled.{choice, flagOf, wordOf, people, siteOf, holdingOf, messageOf, carriedOf}
 use Rattle.words.specs.Calls.{begun, messagesBelow, reachBelow, held, advanced, stepped}
 use Rattle.words.specs.Shows.{ShowsProcess, Shown}
 use Rattle.words.proofs.Places.{Inside, kept, wrote, round-place}
-use Rattle.words.proofs.Frames.{index-small, Near, holding-kept, site-kept, message-kept, carried-kept, changed}
+use Rattle.words.proofs.Frames.{index-small, holding-kept, site-kept, message-kept, carried-kept, changed}
 use Rattle.words.proofs.Settling.{Fit, word-fits, tick-live, tick-fit, unstaged, people-shown, begun-shows}
 use Rattle.words.proofs.Sending.{round-word, reach-word}
 
@@ -56,7 +55,7 @@ module _ (m : Mem) (c : Control) (d : Content) (p : ℕ) (h : Holding) (f : Fit 
   unfolding holdings
   fine = let few = f .few in omega arith
 
-  line-kept : (i : ℕ) → ROUND ≤ i → i < 16 → get (writes m holdings) (Line p i) ≡ get m (Line p i)
+  line-kept : (i : ℕ) → ROUND ≤ i → i < line → get (writes m holdings) (Line p i) ≡ get m (Line p i)
   unfolding holdings
   line-kept i low high = let few = f .few in kept m holdings fine (Line p i) (omega arith)
 

@@ -3,16 +3,14 @@
 use Prim.Native.Nat.{ℕ, _+_, _≤_, _<_}
 use native.Mathlib.Omega.{arith}
 use native.Mathlib.Decide.{decLe, decLt}
-use mathlib.Core.Path.{_≡_, refl, sym, ap, _∙_, subst}
+use mathlib.Core.Path.{_≡_, sym, ap, _∙_, subst}
 use mathlib.Core.Bool.{true}
-use Rattle.sets.specs.Sets.{empty, has}
-use Rattle.rounds.specs.declared.Stage.{Stage}
+use Rattle.sets.specs.Sets.{has}
 use Rattle.rounds.specs.Limits.{window}
 use Rattle.rounds.specs.Run.{Site, Config}
 use Rattle.rounds.specs.Claims.{Live}
 use Rattle.rounds.specs.Claims.Live.{waiting, taken}
 use Rattle.words.specs.Layout.{Mem}
-use Rattle.words.specs.Spelled.{word, countOf}
 use Rattle.words.specs.Shows.{Shows, Same}
 use Rattle.words.proofs.Fitting.{window-of}
 use Rattle.words.proofs.Reading.{size-means, count-shown}

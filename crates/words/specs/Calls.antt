@@ -23,7 +23,7 @@ use Rattle.words.specs.declared.Fate.{Fate}
 use Rattle.words.specs.declared.Fate.the-variants.{Discarded, Kept, Refused}
 use Rattle.words.specs.declared.Standing.{Standing}
 use Rattle.words.specs.Layout.{Mem, RUN, Head, Line, Transit, Mail, get, _:=_, writes, SIZE, EVENTS, VALUE, VOTED, VOTE, DECIDED, DECISION, ROUND, SENT, HEARD, REACH, SINCE, COUNTS, CARRIED}
-use Rattle.words.specs.Spelled.{word, flagOf, wordOf, people, siteOf, holdingOf, messageOf, carriedOf, controlOf, countOf}
+use Rattle.words.specs.Spelled.{word, flagOf, wordOf, people, holdingOf, messageOf, carriedOf, controlOf, countOf}
 
 -- ---- the opening
 unfoldable pub blank : Mem

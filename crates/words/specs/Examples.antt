@@ -1,14 +1,14 @@
 -- The examples of the abstract round machine, run on the words of a memory: every answer and all that is shown must be that machine's.
 -- Assumes nothing.
 use Prim.Native.Nat.{ℕ, zero, suc}
-use mathlib.Core.Bool.{Bool, true, false, _&&_}
+use mathlib.Core.Bool.{Bool, true, _&&_}
 use mathlib.Core.List.{List, [], _∷_, _++_}
 use lib.ListN.{length}
 use Rattle.rounds.specs.declared.Event.{Event}
 use Rattle.rounds.specs.declared.Event.the-variants.{Send, Receive, Step, Broadcast}
 use Rattle.rounds.specs.Verdicts.{numberOf, openVerdict}
 use Rattle.rounds.specs.Run.{Config}
-use Rattle.rounds.specs.Examples.{run, equal, numbers, lines, steps, hears, roundOfTwo, roundOfThree, alone, sevenAndFour, sevenFourTwo, oneOneZero, apart, together, split, whole, trace1, overtaken}
+use Rattle.rounds.specs.Examples.{run, equal, numbers, lines, steps, roundOfTwo, alone, sevenAndFour, sevenFourTwo, oneOneZero, apart, together, split, whole, trace1, overtaken}
 use Rattle.words.specs.declared.Standing.{Standing}
 use Rattle.words.specs.Layout.{Mem, get, put}
 use Rattle.words.specs.Spelled.{word, choice, flagOf, wordOf, people, siteOf, holdingOf, messageOf, carriedOf, controlOf, countOf}
@@ -50,12 +50,20 @@ agrees xs es =
     && alike (length xs) (memory m es) (run xs es)
     && equal (figures (standingOf (memory m es) (length xs))) (figures nobody)
 
--- an opening that is refused, for its size or for its values, leaves a run as it was
-abbrev pub opensNot : ℕ → List ℕ → Bool
-opensNot n xs =
-    let m = memory (opened 2 sevenAndFour) trace1 in
-    let b = begins m n xs in
-    equal (figures (standingOf b 0)) (figures (standingOf m 0)) && equal (figures (standingOf b 1)) (figures (standingOf m 1))
+-- the figures of two processes, in two memories
+abbrev pub twoAlike : Mem → Mem → Bool
+twoAlike m b = equal (figures (standingOf b 0)) (figures (standingOf m 0)) && equal (figures (standingOf b 1)) (figures (standingOf m 1))
+
+-- an opening that is refused, for its size or for its values, leaves a run as it was; one that is accepted leaves nothing of it
+abbrev pub before : Mem
+before = memory (opened 2 sevenAndFour) trace1
+
+abbrev pub openings : List Bool
+openings =
+    twoAlike before (begins before 0 [])
+    ∷ twoAlike before (begins before 2 (7 ∷ []))
+    ∷ twoAlike (opened 2 sevenAndFour) (begins before 2 sevenAndFour)
+    ∷ []
 
 -- document 01's starred examples
 unfoldable pub starred : List Bool
@@ -71,7 +79,7 @@ starred =
     ∷ []
 
 -- and those of our own: a sender that has gone on, its own message not received, late and early messages, silence in an even round, everyone heard and
--- not everyone, a broadcast half refused, a slot of the window used again, every refusal but those of the limits, and openings that are refused
+-- not everyone, a broadcast half refused, a slot of the window used again, every refusal but those of the limits, and openings over a run
 unfoldable pub ours : List Bool
 unfolding memory answers told numbers steps
 ours =
@@ -85,6 +93,4 @@ ours =
     ∷ agrees sevenAndFour (Send 0 1 ∷ Broadcast 0 ∷ [])
     ∷ agrees sevenAndFour (Send 1 0 ∷ alone 0 8 ++ (Receive 0 1 ∷ Send 0 0 ∷ []))
     ∷ agrees sevenAndFour (alone 0 8 ++ (Send 0 0 ∷ Send 0 0 ∷ Send 0 1 ∷ Send 0 2 ∷ Receive 2 0 ∷ Step 2 ∷ Step 1 ∷ Broadcast 0 ∷ Broadcast 2 ∷ []))
-    ∷ opensNot 0 []
-    ∷ opensNot 2 (7 ∷ [])
-    ∷ []
+    ∷ openings

@@ -1,6 +1,8 @@
-// The types that the round machine in lent memory answers with. There is no code here: the machine that runs is the crate above.
+// The types that the round machine in lent memory answers with, and the verdict of an answer. The machine that runs is the crate above.
 use rounds::Verdict;
 use voting::Choice;
+ghost use mathlib.Core.Path.{_≡_};
+ghost use Rattle.words.specs.Shows.{verdictOf};
 
 // What an event is answered with.
 pub enum Answer {
@@ -30,4 +32,14 @@ pub struct Standing {
     pub collecting: u32,
     pub pending: u32,
     pub idle: u32,
+}
+
+// The verdict of an answer.
+pub fn verdict(a: Answer) -> Verdict
+    ensures { λ r. ⌜ r ≡ verdictOf a ⌝ }
+{
+    match a {
+        Answer::Judged(v) => v,
+        Answer::Finished(_, _) => Verdict::Accepted,
+    }
 }

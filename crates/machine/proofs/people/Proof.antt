@@ -12,11 +12,11 @@ head-requires c κs = search needs
 
 returns : tie.Need-returns
 unfolding people
-returns c = (rw (← c .before .head .ensures, lt-ltb _ _ (c .if1 .taken)), omega arith)
+returns c = (rw (← c .before .head .ensures, le-ltb _ _ (c .if1 .taken)), c .if1 .taken)
 
 returns-2 : tie.Need-returns-2
 unfolding people
-returns-2 c = (rw (← c .before .head .ensures, le-ltb _ _ (c .if1 .left)), c .if1 .left)
+returns-2 c = (rw (← c .before .head .ensures, lt-ltb _ _ (c .if1 .left)), omega arith)
 
 pub people-spec : {M : Type 1} → statement M
 people-spec = tie.close (tie.spec head-requires returns returns-2)

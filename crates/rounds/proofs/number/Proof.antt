@@ -1,9 +1,9 @@
 -- `number` goes by the ten verdicts.
 -- Assumes nothing.
 use Rattle.rounds.specs.Verdicts.{numberOf}
 use borrow.Author.Needs.{needs}
-use Rattle.machine.proofs.number.Statement.{statement}
-use Rattle.machine.proofs.number.Tie as tie
+use Rattle.rounds.proofs.number.Statement.{statement}
+use Rattle.rounds.proofs.number.Tie as tie
 
 enum-told : tie.Need-enum-told
 enum-told c = search needs

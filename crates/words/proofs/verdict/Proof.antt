@@ -1,9 +1,9 @@
 -- `verdict` goes by the two kinds of answer.
 -- Assumes nothing.
 use Rattle.words.specs.Shows.{verdictOf}
 use borrow.Author.Needs.{needs}
-use Rattle.machine.proofs.verdict.Statement.{statement}
-use Rattle.machine.proofs.verdict.Tie as tie
+use Rattle.words.proofs.verdict.Statement.{statement}
+use Rattle.words.proofs.verdict.Tie as tie
 
 enum-known-a : tie.Need-enum-known-a
 enum-known-a c = search needs
