@@ -8,7 +8,9 @@ use Rattle.rounds.specs.declared.Event.{Event}
 use Rattle.rounds.specs.declared.Event.the-variants.{Send, Receive, Step, Broadcast}
 use Rattle.rounds.specs.Verdicts.{numberOf, openVerdict}
 use Rattle.rounds.specs.Run.{Config}
-use Rattle.rounds.specs.Examples.{run, equal, numbers, lines, steps, roundOfTwo, alone, sevenAndFour, sevenFourTwo, oneOneZero, apart, together, split, whole, trace1, overtaken}
+use Rattle.rounds.specs.Events.{apply}
+use Rattle.rounds.specs.Examples.{run, equal, numbers, lines, roundOfTwo, alone, sevenAndFour, sevenFourTwo, oneOneZero, apart, together, split, whole, trace1, overtaken}
+use Rattle.words.specs.declared.Answer.{Answer}
 use Rattle.words.specs.declared.Standing.{Standing}
 use Rattle.words.specs.Layout.{Mem, get, put}
 use Rattle.words.specs.Spelled.{word, choice, flagOf, wordOf, people, siteOf, holdingOf, messageOf, carriedOf, controlOf, countOf}
@@ -21,16 +23,6 @@ unfolding run openVerdict get put word choice flagOf wordOf people siteOf holdin
 memory m [] = m
 memory m (e ∷ es) = memory (applied m e) es
 
--- the numbers that the events are answered with
-unfoldable pub answers : Mem → List Event → List ℕ
-answers m [] = []
-answers m (e ∷ es) = numberOf (verdictOf (answer (controlOf m) e)) ∷ answers (applied m e) es
-
--- the process, round and set of each report
-unfoldable pub told : Mem → List Event → List ℕ
-told m [] = []
-told m (e ∷ es) = lines (reported e (answer (controlOf m) e)) ++ told (applied m e) es
-
 -- all that is shown of a process, as numbers
 abbrev pub figures : Standing → List ℕ
 figures s =
@@ -41,14 +33,18 @@ abbrev pub alike : ℕ → Mem → Config → Bool
 alike zero m c = true
 alike (suc p) m c = alike p m c && equal (figures (standingOf m p)) (figures (standing c p))
 
--- the run of these events from these values: the same answers and reports, and the same figures of every process; of one more, none
+-- what an answer says: its number, and the process, round and set that it reports
+abbrev pub says : Event → Answer → List ℕ
+says e a = numberOf (verdictOf a) ∷ lines (reported e a)
+
+-- event by event the same answers, and at the end the same figures of every process; of one more, none
+unfoldable pub agreeing : Mem → Config → List Event → Bool
+agreeing m c [] = alike (c .control .size) m c && equal (figures (standingOf m (c .control .size))) (figures nobody)
+agreeing m c (e ∷ es) = equal (says e (answer (controlOf m) e)) (says e (answer (c .control) e)) && agreeing (applied m e) (apply c e) es
+
+-- the run of these events from these values
 abbrev pub agrees : List ℕ → List Event → Bool
-agrees xs es =
-    let m = opened (length xs) xs in
-    equal (answers m es) (numbers xs es)
-    && equal (told m es) (steps xs es)
-    && alike (length xs) (memory m es) (run xs es)
-    && equal (figures (standingOf (memory m es) (length xs))) (figures nobody)
+agrees xs es = agreeing (opened (length xs) xs) (run xs []) es
 
 -- the figures of two processes, in two memories
 abbrev pub twoAlike : Mem → Mem → Bool
@@ -67,7 +63,7 @@ openings =
 
 -- document 01's starred examples
 unfoldable pub starred : List Bool
-unfolding memory answers told numbers steps
+unfolding memory agreeing
 starred =
     agrees sevenAndFour trace1
     ∷ agrees oneOneZero (split ++ whole)
@@ -81,7 +77,7 @@ starred =
 -- and those of our own: a sender that has gone on, its own message not received, late and early messages, silence in an even round, everyone heard and
 -- not everyone, a broadcast half refused, a slot of the window used again, every refusal but those of the limits, and openings over a run
 unfoldable pub ours : List Bool
-unfolding memory answers told numbers steps
+unfolding memory agreeing
 ours =
     agrees sevenFourTwo overtaken
     ∷ agrees (1 ∷ 4 ∷ []) (Broadcast 0 ∷ Broadcast 1 ∷ Receive 0 1 ∷ Step 0 ∷ [])
