@@ -38,7 +38,7 @@ first-same (suc n) f g same =
 module _ (m : Mem) (c : Control) (d : Content) (few : c .size ≤ mostProcesses) (k : Shown m c d) where
   size-shown : controlOf m .size ≡ c .size
   unfolding controlOf
-  size-shown = people-shown m c d few k
+  size-shown = people-shown m c d k few
 
   site-shown : (p : ℕ) → p < c .size → controlOf m .site p ≡ c .site p
   unfolding controlOf
@@ -58,7 +58,7 @@ module _ (m : Mem) (c : Control) (d : Content) (few : c .size ≤ mostProcesses)
 
   receive-shown : (p q : ℕ) → p < c .size → receiveVerdict (controlOf m) p q ≡ receiveVerdict c p q
   unfolding receiveVerdict controlOf
-  receive-shown p q hp = rw (k .each p hp .site, transit-shown m c d few k p hp)
+  receive-shown p q hp = rw (k .each p hp .site, transit-shown m c d k p hp)
 
   step-shown : (p : ℕ) → p < c .size → stepVerdict (controlOf m) p ≡ stepVerdict c p
   unfolding stepVerdict sentToAll

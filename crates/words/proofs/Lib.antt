@@ -2,6 +2,8 @@
 pub mod Places
 pub mod Frames
 pub mod Settling
+pub mod Marking
+pub mod Posting
 pub mod Sending
 pub mod Receiving
 pub mod Stepping

@@ -58,7 +58,7 @@ module _ (m : Mem) (c : Control) (d : Content) (v : ℕ → ℕ) {rs : List Repo
   done-shown (Send p q) h = sent-shows m c d p q (fit (c .size) v l few) h k
   done-shown (Receive p q) h = received-shows m c d p q (fit (c .size) v l few) h k
   done-shown (Step p) h = stepped-shows m c d p (fit (c .size) v l few) (round-top (c .size) v l p) (beyond-empty (c .size) v l p) h k
-  done-shown (Broadcast p) h = rw (people-shown m c d few k) (sends-shown p h (c .size) (omega arith))
+  done-shown (Broadcast p) h = rw (people-shown m c d k few) (sends-shown p h (c .size) (omega arith))
 
 -- ---- any event
 applied-shown : (m : Mem) (c : Config) (e : Event) → Shows m c → Shown (applied m e) (apply c e .control) (apply c e .content)
@@ -101,11 +101,12 @@ pub opening-shows : (n : ℕ) (xs : List ℕ) (v : ℕ → ℕ) → n ≤ mostPr
 unfolding opening openControl
 opening-shows n xs v few given = record { values = v; reports = []; reached = stays; few = few; shown = opened-shown n xs v few given }
 
-pub begin-means : (m : Mem) (n : ℕ) (xs : List ℕ) (v : ℕ → ℕ) → openVerdict n (length xs) ≡ Accepted → Given n xs v → Shows (begins m n xs) (opening n v)
+pub begin-means : (m : Mem) (n : ℕ) (xs : List ℕ) (v : ℕ → ℕ) → openVerdict n (length xs) ≡ Accepted → Given n xs v
+    → Shows (begins m n xs) (opening n v)
 unfolding begins ifAccepted
 begin-means m n xs v a given =
-    let yes-it-is = accepted-is (openVerdict n (length xs)) a in
-    rw yes-it-is (opening-shows n xs v (opens-right n (length xs) yes-it-is .most) given)
+    let ok = accepted-is (openVerdict n (length xs)) a in
+    rw ok (opening-shows n xs v (opens-right n (length xs) ok .most) given)
 
 -- ---- a refusal leaves every word as it was, whatever the memory holds; an accepted opening leaves none
 pub refused-unchanged : (m : Mem) (e : Event) → accepted (verdict (controlOf m) e) ≡ false → applied m e ≡ m

@@ -12,13 +12,12 @@ use Rattle.words.specs.Layout.{Mem, Head, get, EVENTS}
 use Rattle.words.specs.Spelled.{word, people, countOf}
 use Rattle.words.specs.Calls.{standingOf}
 use Rattle.words.specs.Shows.{Shows, standing}
-use Rattle.words.proofs.Settling.{Fit, word-fits, people-shown, stage-shown}
-use Rattle.words.proofs.Sending.{round-word, reach-word}
+use Rattle.words.proofs.Settling.{Fit, word-fits, round-word, reach-word, people-shown, stage-shown}
 use Rattle.words.proofs.Fitting.{fit, total-of}
 
 module _ (m : Mem) (c : Config) (k : Shows m c) where
   pub size-means : people m ≡ c .control .size
-  size-means = people-shown m (c .control) (c .content) (k .few) (k .shown)
+  size-means = people-shown m (c .control) (c .content) (k .shown) (k .few)
 
   pub events-means : get m (Head EVENTS) ≡ c .control .events
   events-means = k .shown .events
@@ -30,7 +29,7 @@ module _ (m : Mem) (c : Config) (k : Shows m c) where
   pub count-shown : (p : ℕ) (s : Stage) → p < c .control .size → word (countOf m p s) ≡ c .control .count p s
   unfolding countOf
   count-shown p s h =
-      rw (stage-shown m (c .control) (c .content) (k .few) (k .shown) p h, k .shown .events, ← k .shown .each p h .count s)
+      rw (stage-shown m (c .control) (c .content) (k .shown) (k .few) p h, k .shown .events, ← k .shown .each p h .count s)
       (word-fits (c .control .count p s) (let small = fits .small p s in let room = fits .room in omega arith))
 
   pub site-means : (p : ℕ) → p < c .control .size → standingOf m p ≡ standing c p

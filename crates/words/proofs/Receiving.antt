@@ -20,8 +20,7 @@ use Rattle.words.specs.Calls.{begun, taken, received}
 use Rattle.words.specs.Shows.{ShowsProcess, Shown}
 use Rattle.words.proofs.Places.{Inside, kept, wrote}
 use Rattle.words.proofs.Frames.{index-small, holding-kept, message-kept, carried-kept, changed}
-use Rattle.words.proofs.Settling.{Fit, tick-live, tick-fit, unstaged, transit-shown, begun-shows}
-use Rattle.words.proofs.Sending.{round-word}
+use Rattle.words.proofs.Settling.{Fit, tick-live, tick-fit, unstaged, round-word, transit-shown, begun-shows}
 
 unfoldable takings : ℕ → ℕ → ℕ → ℕ → ℕ → List Write
 takings p q r senders heard = Transit p r := without senders q ∷ Line p HEARD := with heard q ∷ []
@@ -88,7 +87,7 @@ module _ (m : Mem) (c : Control) (d : Content) (p q : ℕ) (f : Fit (tick c)) (h
 
   taken-words : taken m p q ≡ b
   unfolding taken takings tick
-  taken-words = rw (round-word m (tick c) d k p (h .to), transit-shown m (tick c) d (f .few) k p (h .to))
+  taken-words = rw (round-word m (tick c) d k p (h .to), transit-shown m (tick c) d k p (h .to))
 
   taken-shows : Shown (taken m p q) after d
   unfolding takings receiveControl tick at₂

@@ -11,12 +11,12 @@ use lib.Dec.{eqb, lit<, lit≤}
 use borrow.Author.Tests.{eq-eqb, ne-eqb, le-ltb}
 use Rattle.rounds.specs.declared.Stage.{Stage}
 use Rattle.rounds.specs.Limits.{mostProcesses, mostEvents}
-use Rattle.rounds.specs.Run.{Control, Content}
+use Rattle.rounds.specs.Run.{Site, Control, Content}
 use Rattle.rounds.specs.Stages.{sentToAll, heardFromAll, waited, stage, index, one, tick}
 use Rattle.rounds.specs.Claims.{Live}
 use Rattle.rounds.specs.Claims.Live.{waiting, taken}
-use Rattle.words.specs.Layout.{Mem, Head, Line, Transit, Mail, get, Write, _:=_, writes, SIZE, EVENTS, SINCE, COUNTS}
-use Rattle.words.specs.Spelled.{word, people, controlOf}
+use Rattle.words.specs.Layout.{Mem, Head, Line, Transit, Mail, get, Write, _:=_, writes, SIZE, EVENTS, ROUND, REACH, SINCE, COUNTS}
+use Rattle.words.specs.Spelled.{word, people, siteOf, controlOf}
 use Rattle.words.specs.Calls.{counted, settled, begun}
 use Rattle.words.specs.Shows.{ShowsProcess, Shown}
 use Rattle.words.proofs.Places.{Inside, kept, wrote, writes-length, head-only}
@@ -111,17 +111,26 @@ counted-shows m c d f more k =
     }
 
 -- ---- what the words say of a process is what the configuration says
-module _ (m : Mem) (c : Control) (d : Content) (few : c .size ≤ mostProcesses) (k : Shown m c d) where
-  pub people-shown : people m ≡ c .size
-  unfolding people
-  people-shown = rw (k .size, le-ltb mostProcesses (c .size) few)
+module _ (m : Mem) (c : Control) (d : Content) (k : Shown m c d) where
+  pub round-word : (p : ℕ) → p < c .size → get m (Line p ROUND) ≡ c .site p .round
+  unfolding siteOf
+  round-word p h = ap (λ (s : Site). s .round) (k .each p h .site)
+
+  pub reach-word : (p : ℕ) → p < c .size → get m (Line p REACH) ≡ c .site p .reach
+  unfolding siteOf
+  reach-word p h = ap (λ (s : Site). s .reach) (k .each p h .site)
 
   pub transit-shown : (p : ℕ) → p < c .size → get m (Transit p (c .site p .round)) ≡ c .transit p (c .site p .round)
   transit-shown p h = k .each p h .transit (c .site p .round) (omega arith) (omega arith)
 
-  pub stage-shown : (p : ℕ) → p < c .size → stage (controlOf m) p ≡ stage c p
-  unfolding stage sentToAll heardFromAll waited controlOf
-  stage-shown p h = rw (people-shown, k .each p h .site, transit-shown p h)
+  module _ (few : c .size ≤ mostProcesses) where
+    pub people-shown : people m ≡ c .size
+    unfolding people
+    people-shown = rw (k .size, le-ltb mostProcesses (c .size) few)
+
+    pub stage-shown : (p : ℕ) → p < c .size → stage (controlOf m) p ≡ stage c p
+    unfolding stage sentToAll heardFromAll waited controlOf
+    stage-shown p h = rw (people-shown, k .each p h .site, transit-shown p h)
 
 -- ---- a process settled
 level : (e : ℕ) → e - e ≡ 0
@@ -153,7 +162,7 @@ module _ (m : Mem) (c : Control) (d : Content) (p : ℕ) (f : Fit c) (hp : p < c
       let own = k .each p hp in
       let room : get m (Line p (COUNTS + index (stage c p))) + (c .events - get m (Line p SINCE)) < 2 ^ 32 =
       within _ _ _ _ _ (f .room) (f .small p (stage c p)) (one-same (stage c p) (stage c p) refl) (own .count (stage c p)) in
-      rw (stage-shown m c d (f .few) k p hp, k .events, word-fits _ room)
+      rw (stage-shown m c d k (f .few) p hp, k .events, word-fits _ room)
 
   fine : Inside settling
   unfolding settling

@@ -29,8 +29,7 @@ use Rattle.words.specs.Calls.{begun, messagesBelow, reachBelow, held, ad
 use Rattle.words.specs.Shows.{ShowsProcess, Shown}
 use Rattle.words.proofs.Places.{Inside, kept, wrote, round-place}
 use Rattle.words.proofs.Frames.{index-small, holding-kept, site-kept, message-kept, carried-kept, changed}
-use Rattle.words.proofs.Settling.{Fit, word-fits, tick-live, tick-fit, unstaged, people-shown, begun-shows}
-use Rattle.words.proofs.Sending.{round-word, reach-word}
+use Rattle.words.proofs.Settling.{Fit, word-fits, tick-live, tick-fit, unstaged, round-word, reach-word, people-shown, begun-shows}
 
 -- ---- what the process holds
 choice-back : (v : Choice) → choice (flagOf v) (wordOf v) ≡ v
@@ -196,7 +195,7 @@ module _ (m : Mem) (c : Control) (d : Content) (p : ℕ) (f : Fit (tick c)) (h :
 module _ (m : Mem) (c : Control) (d : Content) (p : ℕ) (few : Fit c) (hp : p < c .size) (k : Shown m c d) where
   heard-shown : members (people m) (get m (Line p HEARD)) ≡ members (c .size) (c .site p .heard)
   unfolding siteOf
-  heard-shown = rw (people-shown m c d (few .few) k, ap (λ (s : Site). s .heard) (k .each p hp .site))
+  heard-shown = rw (people-shown m c d k (few .few), ap (λ (s : Site). s .heard) (k .each p hp .site))
 
   -- the rule on what the words say is the round machine's step
   holding-shown : rule (get m (Line p ROUND)) (holdingOf m p) (messagesBelow (people m) m p)

@@ -33,7 +33,9 @@ module _ (m : Mem) (c e : Config) (k : Shows m c) (l : Shows m e) where
       same-round = ap (λ (s : Site). s .round) (sym (same-site p h))
 
       go : Dec (c .control .site p .round ≤ r) → Dec (r < c .control .site p .round + window) → c .control .transit p r ≡ e .control .transit p r
-      go (yes low) (yes high) = sym (k .shown .each p h .transit r low high) ∙ l .shown .each p (inside p h) .transit r (omega (arith, same-round)) (omega (arith, same-round))
+      go (yes low) (yes high) =
+          sym (k .shown .each p h .transit r low high)
+          ∙ l .shown .each p (inside p h) .transit r (omega (arith, same-round)) (omega (arith, same-round))
       go (no n) any =
           window-of (c .control .size) (k .values) (k .reached) p r .0 (omega arith)
           ∙ sym (window-of (e .control .size) (l .values) (l .reached) p r .0 (omega (arith, same-round)))

@@ -6,9 +6,10 @@ use mathlib.Core.List.{List, [], _∷_, _++_}
 use lib.ListN.{length}
 use Rattle.rounds.specs.declared.Event.{Event}
 use Rattle.rounds.specs.declared.Event.the-variants.{Send, Receive, Step, Broadcast}
-use Rattle.rounds.specs.Verdicts.{numberOf, openVerdict}
-use Rattle.rounds.specs.Run.{Config}
-use Rattle.rounds.specs.Events.{apply}
+use Rattle.rounds.specs.Verdicts.{numberOf, openVerdict, verdict}
+use Rattle.rounds.specs.Run.{Control, Config}
+use Rattle.rounds.specs.Events.{ifAccepted, apply}
+use Rattle.rounds.specs.Runs.{told}
 use Rattle.rounds.specs.Examples.{run, equal, numbers, lines, roundOfTwo, alone, sevenAndFour, sevenFourTwo, oneOneZero, apart, together, split, whole, trace1, overtaken}
 use Rattle.words.specs.declared.Answer.{Answer}
 use Rattle.words.specs.declared.Standing.{Standing}
@@ -33,14 +34,17 @@ abbrev pub alike : ℕ → Mem → Config → Bool
 alike zero m c = true
 alike (suc p) m c = alike p m c && equal (figures (standingOf m p)) (figures (standing c p))
 
--- what an answer says: its number, and the process, round and set that it reports
+-- what an answer says: its number, and the process, round and set that it reports; and what the abstract machine says
 abbrev pub says : Event → Answer → List ℕ
 says e a = numberOf (verdictOf a) ∷ lines (reported e a)
+
+abbrev pub said : Control → Event → List ℕ
+said c e = numberOf (verdict c e) ∷ lines (ifAccepted (verdict c e) (told c e) [])
 
 -- event by event the same answers, and at the end the same figures of every process; of one more, none
 unfoldable pub agreeing : Mem → Config → List Event → Bool
 agreeing m c [] = alike (c .control .size) m c && equal (figures (standingOf m (c .control .size))) (figures nobody)
-agreeing m c (e ∷ es) = equal (says e (answer (controlOf m) e)) (says e (answer (c .control) e)) && agreeing (applied m e) (apply c e) es
+agreeing m c (e ∷ es) = equal (says e (answer (controlOf m) e)) (said (c .control) e) && agreeing (applied m e) (apply c e) es
 
 -- the run of these events from these values
 abbrev pub agrees : List ℕ → List Event → Bool

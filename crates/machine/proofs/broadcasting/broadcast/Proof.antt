@@ -19,14 +19,17 @@ accepted-requires : tie.Need-accepted-requires
 accepted-requires c κs = search needs
 
 carry-sends-requires : tie.Need-carry-sends-requires
-carry-sends-requires c κs = (broadcast-told _ _ (answered (c .before .before .before .judge-broadcast .ensures) (c .before .before .accepted .ensures) (c .before .if1 .taken)), c .before .before .before .before .before .people .ensures .1)
+carry-sends-requires c κs =
+    let c3 = c .before .before .before in
+    (broadcast-told _ _ (answered (c3 .judge-broadcast .ensures) (c .before .before .accepted .ensures) (c .before .if1 .taken)), c3 .before .before .people .ensures .1)
 
 returns : tie.Need-returns
 unfolding applied done ifAccepted answer
 returns c =
     let c4 = c .before .before .before .before in
     let judged = c4 .judge-broadcast .ensures in
-    judged-meant _ _ refl (judged, rw (answered judged (c .before .before .before .accepted .ensures) (c .before .before .if1 .taken), ← c4 .before .before .people .ensures .0) (c .carry-sends .ensures))
+    let ok = answered judged (c .before .before .before .accepted .ensures) (c .before .before .if1 .taken) in
+    judged-meant _ _ refl (judged, rw (ok, ← c4 .before .before .people .ensures .0) (c .carry-sends .ensures))
 
 returns-2 : tie.Need-returns-2
 unfolding applied done ifAccepted answer
