@@ -17,5 +17,6 @@ pub mod Mail
 pub mod Table
 pub mod Effects
 pub mod Running
+pub mod Recorded
 pub mod InRuns
 pub mod Independence

@@ -1,5 +1,5 @@
 -- A memory shows one configuration: two that it shows are the same in all that the processes below the size hold, all that is in transit to
--- them and all that they have heard. Assumes nothing.
+-- them and all that they have heard. And what it shows is a run: the configuration after some events from an opening. Assumes nothing.
 use Prim.Native.Nat.{ℕ, _+_, _≤_, _<_}
 use native.Mathlib.Omega.{arith}
 use native.Mathlib.Decide.{decLe, decLt}
@@ -7,9 +7,10 @@ use mathlib.Core.Path.{_≡_, sym, ap, _∙_, subst}
 use mathlib.Core.Bool.{true}
 use Rattle.sets.specs.Sets.{has}
 use Rattle.rounds.specs.Limits.{window}
-use Rattle.rounds.specs.Run.{Site, Config}
+use Rattle.rounds.specs.Run.{Site, Config, openControl, openContent, opening}
 use Rattle.rounds.specs.Claims.{Live}
 use Rattle.rounds.specs.Claims.Live.{waiting, taken}
+use Rattle.rounds.proofs.Recorded.{Recorded, recorded}
 use Rattle.words.specs.Layout.{Mem}
 use Rattle.words.specs.Shows.{Shows, Same}
 use Rattle.words.proofs.Fitting.{window-of}
@@ -60,3 +61,7 @@ module _ (m : Mem) (c e : Config) (k : Shows m c) (l : Shows m e) where
         mail = λ p r q h t. sym (k .shown .each p h .mail r q t) ∙ l .shown .each p (inside p h) .mail r q (same-live p r q h t);
         carried = λ p r q h t. sym (k .shown .each p h .carried r q t) ∙ l .shown .each p (inside p h) .carried r q (same-live p r q h t);
       }
+
+pub shown-run : (m : Mem) (c : Config) (k : Shows m c) → Recorded (opening (c .control .size) (k .values)) c
+unfolding opening
+shown-run m c k = recorded (openControl (c .control .size)) (openContent (k .values)) (k .reached)
