@@ -1,30 +1,68 @@
 // A hundred runs of sixteen processes in lock step: in each of 1,890 rounds everyone sends to all, hears all and steps. That is 99,792,000 events.
 // What is left at the end is known, and 'ok' is written where it is so. bench/ times this beside the same loop in C.
 use machine::RUN;
+ghost use Prim.Native.Nat.{ℕ};
+ghost use mathlib.Core.Path.{_≡_};
+ghost use lib.ListN.{length};
+ghost use Rattle.rounds.specs.Run.{Config, opening};
+ghost use Rattle.rounds.specs.Runs as Runs;
+ghost use Rattle.rounds.specs.Runs.{after};
+ghost use Rattle.words.specs.Shows.{Shows, Given};
+ghost use Rattle.lockstep.specs.LockStep.{receivesBelow, oneTurn, allSend, allTurn, oneRound, manyRounds};
 
-fn sends(run: &mut [u32; RUN], p: u8) {
+// Process p sends to all.
+fn sends(run: &mut [u32; RUN], p: u8)
+    ensures { λ r. ⌜ ((c : Config) → Shows (now (run .entry)) c → Shows (now (run .exit)) (after c (Runs.sends 16 p))) ⌝ }
+{
     for q in 0..16u8 {
         machine::send(&mut *run, p, q);
     }
 }
 
-fn receives(run: &mut [u32; RUN], p: u8) {
+// Process p hears all.
+fn receives(run: &mut [u32; RUN], p: u8)
+    ensures { λ r. ⌜ ((c : Config) → Shows (now (run .entry)) c → Shows (now (run .exit)) (after c (receivesBelow 16 p))) ⌝ }
+{
     for q in 0..16u8 {
         machine::receive(&mut *run, p, q);
     }
 }
 
-fn round(run: &mut [u32; RUN]) {
+// Process p hears all and steps.
+fn turn(run: &mut [u32; RUN], p: u8)
+    ensures { λ r. ⌜ ((c : Config) → Shows (now (run .entry)) c → Shows (now (run .exit)) (after c (oneTurn p))) ⌝ }
+{
+    receives(&mut *run, p);
+    machine::step(&mut *run, p);
+}
+
+fn all_send(run: &mut [u32; RUN])
+    ensures { λ r. ⌜ ((c : Config) → Shows (now (run .entry)) c → Shows (now (run .exit)) (after c (allSend 16))) ⌝ }
+{
     for p in 0..16u8 {
         sends(&mut *run, p);
     }
+}
+
+fn all_turn(run: &mut [u32; RUN])
+    ensures { λ r. ⌜ ((c : Config) → Shows (now (run .entry)) c → Shows (now (run .exit)) (after c (allTurn 16))) ⌝ }
+{
     for p in 0..16u8 {
-        receives(&mut *run, p);
-        machine::step(&mut *run, p);
+        turn(&mut *run, p);
     }
 }
 
-fn night(run: &mut [u32; RUN], values: &[u32]) {
+fn round(run: &mut [u32; RUN])
+    ensures { λ r. ⌜ ((c : Config) → Shows (now (run .entry)) c → Shows (now (run .exit)) (after c oneRound)) ⌝ }
+{
+    all_send(&mut *run);
+    all_turn(&mut *run);
+}
+
+// A run of sixteen processes with these values, from its opening.
+fn night(run: &mut [u32; RUN], values: &[u32])
+    ensures { λ r. ⌜ ((v : ℕ → ℕ) → length (now (values .entry)) ≡ 16 → Given 16 (now (values .entry)) v → Shows (now (run .exit)) (after (opening 16 v) (manyRounds 1890))) ⌝ }
+{
     machine::begin(&mut *run, 16, values);
     for _ in 0..1890u32 {
         round(&mut *run);

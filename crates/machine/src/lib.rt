@@ -1,5 +1,5 @@
-// The round machine in lent memory: one array of words, changed in place, constant time for each event but a broadcast and a step, which go over
-// the processes once. No call asks anything of its caller, nor of what the memory holds.
+// The round machine in lent memory: one array of words, changed in place. A send and a receive take constant time; a step and a broadcast go over the
+// processes. No call asks anything of its caller, nor of what the memory holds.
 mod broadcasting;
 mod cells;
 mod limits;

@@ -70,8 +70,8 @@ unfoldable pub starred : List Bool
 unfolding memory agreeing
 starred =
     agrees sevenAndFour trace1
-    ∷ agrees oneOneZero (split ++ whole)
-    ∷ agrees sevenAndFour (apart ++ apart ++ together ++ together)
+    ∷ agrees oneOneZero (split ++ whole ++ whole ++ whole)
+    ∷ agrees sevenAndFour (apart ++ apart ++ together ++ together ++ together ++ together)
     ∷ agrees sevenAndFour (apart ++ roundOfTwo (0 ∷ 1 ∷ []) (1 ∷ []))
     ∷ agrees sevenAndFour (Broadcast 0 ∷ Step 0 ∷ [])
     ∷ agrees sevenAndFour (alone 0 8 ++ (Send 0 1 ∷ []))

@@ -14,7 +14,7 @@ pub enum Answer {
 
 // What the lead of a sender says of its message.
 pub enum Fate {
-    // It is late, and not put in transit.
+    // It is late, and not put in transit. A lead above the window, which no run has, discards it too.
     Discarded,
     Kept,
     // The lead is the whole window: the send is refused.

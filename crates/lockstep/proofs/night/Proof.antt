@@ -1,12 +1,23 @@
--- `night` goes over the rounds.
+-- `night` begins the run, and goes over its rounds; at each the memory shows the run of the rounds so far.
 -- Assumes nothing.
-use Prim.Native.Nat.{_-_, _≤_}
+use Prim.Native.Nat.{ℕ, _≤_, _-_}
+use native.Mathlib.Omega.{arith}
+use mathlib.Core.Path.{_≡_, _∙_, subst, ap}
+use lib.ListN.{length}
+use Rattle.rounds.specs.Run.{opening}
+use Rattle.rounds.specs.Verdicts.{openVerdict}
+use Rattle.rounds.specs.Runs.{after}
+use Rattle.words.specs.Shows.{Shows, Given}
+use Rattle.lockstep.specs.LockStep.{manyRounds}
+use Rattle.lockstep.proofs.Joining.{sixteen-open, rounds-next}
 use borrow.Author.Needs.{needs}
 use Rattle.lockstep.proofs.night.Statement.{statement}
 use Rattle.lockstep.proofs.night.Tie as tie
 
 abbrev Inv-loop : tie.InvT-loop
-Inv-loop run₀ values counter₀ run counter = counter ≤ 1890
+Inv-loop run₀ values counter₀ run counter =
+    (counter ≤ 1890)
+    × ((v : ℕ → ℕ) → length values ≡ 16 → Given 16 values v → Shows run (after (opening 16 v) (manyRounds counter)))
 
 abbrev μ-loop : tie.MeasureT-loop
 μ-loop run₀ values counter₀ run counter = 1890 - counter
@@ -15,7 +26,9 @@ begin-requires : tie.Need-begin-requires Inv-loop μ-loop
 begin-requires c κs = search needs
 
 loop-holds : tie.Need-loop-holds Inv-loop μ-loop
-loop-holds c = search needs
+unfolding manyRounds after
+loop-holds c =
+    (search needs, λ v e g. c .begin .ensures .1 (c .begin .ensures .0 .0 ∙ ap (openVerdict 16) e ∙ sixteen-open) v g)
 
 round-requires : tie.Need-round-requires Inv-loop μ-loop
 round-requires c κs = search needs
@@ -27,10 +40,17 @@ loop-less : tie.Need-loop-less Inv-loop μ-loop
 loop-less c = search needs
 
 loop-again : tie.Need-loop-again Inv-loop μ-loop
-loop-again c = search needs
+loop-again c =
+    let l = c .before .before .before .loop in (
+      search needs,
+      λ v e g. rounds-next _ (opening 16 v) (l .counter) (c .round .ensures (after (opening 16 v) (manyRounds (l .counter))) (l .inv .1 v e g)),
+    )
 
 returns : tie.Need-returns Inv-loop μ-loop
-returns c = search needs
+returns c =
+    let l = c .before .loop in
+    let f : l .counter ≡ 1890 = omega arith in
+    λ v e g. subst (λ (k : ℕ). Shows (l .run) (after (opening 16 v) (manyRounds k))) f (l .inv .1 v e g)
 
 pub night-spec : {M : Type 1} → statement M
 night-spec =

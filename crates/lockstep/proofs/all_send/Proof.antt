@@ -1,0 +1,48 @@
+-- `all_send` goes over the sixteen processes; at each the memory shows the run of the events so far.
+-- Assumes nothing.
+use Prim.Native.Nat.{ℕ, _≤_, _-_}
+use native.Mathlib.Omega.{arith}
+use mathlib.Core.Path.{_≡_, subst}
+use Rattle.rounds.specs.Run.{Config}
+use Rattle.rounds.specs.Runs.{after}
+use Rattle.words.specs.Shows.{Shows}
+use Rattle.lockstep.specs.LockStep.{allSend}
+use Rattle.lockstep.proofs.Joining.{all-sent-next}
+use borrow.Author.Needs.{needs}
+use Rattle.lockstep.proofs.all_send.Statement.{statement}
+use Rattle.lockstep.proofs.all_send.Tie as tie
+
+abbrev Inv-loop : tie.InvT-loop
+Inv-loop run₀ p₀ run p = (p ≤ 16) × ((d : Config) → Shows run₀ d → Shows run (after d (allSend p)))
+
+abbrev μ-loop : tie.MeasureT-loop
+μ-loop run₀ p₀ run p = 16 - p
+
+loop-holds : tie.Need-loop-holds Inv-loop μ-loop
+unfolding allSend after
+loop-holds c = (search needs, λ d s. s)
+
+sends-requires : tie.Need-sends-requires Inv-loop μ-loop
+sends-requires c κs = search needs
+
+add-p : tie.Need-add-p Inv-loop μ-loop
+add-p c = search needs
+
+loop-less : tie.Need-loop-less Inv-loop μ-loop
+loop-less c = search needs
+
+loop-again : tie.Need-loop-again Inv-loop μ-loop
+loop-again c =
+    let l = c .before .before .before .loop in
+    (search needs, λ d s. all-sent-next _ d (l .p) (c .sends .ensures (after d (allSend (l .p))) (l .inv .1 d s)))
+
+returns : tie.Need-returns Inv-loop μ-loop
+returns c =
+    let l = c .before .loop in
+    let e : l .p ≡ 16 = omega arith in
+    λ d s. subst (λ (k : ℕ). Shows (l .run) (after d (allSend k))) e (l .inv .1 d s)
+
+pub all-send-spec : {M : Type 1} → statement M
+all-send-spec =
+    tie.close
+    (tie.spec Inv-loop μ-loop loop-holds sends-requires add-p loop-less loop-again returns)

@@ -1,0 +1,2 @@
+-- The definitions: the events of processes in lock step.
+pub mod LockStep
