@@ -43,6 +43,7 @@ fn judge_targets(run: &[u32; RUN], p: u32, n: u32) -> Verdict
     v
 }
 
+// The tests of a broadcast, in document 01's order: room for all its events at once, then its targets.
 fn judge_broadcast(run: &[u32; RUN], p: u32) -> Verdict
     ensures { λ r. ⌜ r ≡ verdict (controlOf (now (run .entry))) (Broadcast p) ⌝ }
 {

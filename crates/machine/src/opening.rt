@@ -15,6 +15,7 @@ ghost use Rattle.words.specs.Calls as Calls;
 ghost use Rattle.words.specs.Calls.{begins};
 ghost use Rattle.words.specs.Shows.{Shows, Given};
 
+// The tests of an opening, in document 01's order.
 fn judge_opening(n: u32, given: usize) -> Verdict
     ensures { λ r. ⌜ r ≡ openVerdict n given ⌝ }
 {
@@ -61,6 +62,7 @@ fn place(run: &mut [u32; RUN], p: u32, value: u32)
     set_line(&mut *run, p, REACH, own);
 }
 
+// A process for each of the values.
 fn place_all(run: &mut [u32; RUN], values: &[u32])
     requires { ⌜ length (now values) ≤ mostProcesses ⌝ }
     ensures { λ r. ⌜ now (run .exit) ≡ Calls.placedBelow (length (now (values .entry))) (now (values .entry)) (now (run .entry)) ⌝ }

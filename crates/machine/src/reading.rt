@@ -32,6 +32,7 @@ pub fn events(run: &[u32; RUN]) -> u32
     head(run, EVENTS)
 }
 
+// The place of a stage among the counts.
 fn index(s: Stage) -> usize
     ensures { λ r. ⌜ (r ≡ Stages.index s) × (r < 4) ⌝ }
 {

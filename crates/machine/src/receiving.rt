@@ -17,6 +17,7 @@ ghost use Rattle.words.specs.Calls as Calls;
 ghost use Rattle.words.specs.Calls.{applied};
 ghost use Rattle.words.specs.Shows.{Shows, Meant};
 
+// The tests of a receive, in document 01's order.
 fn judge_receive(run: &[u32; RUN], p: u32, q: u32) -> Verdict
     ensures { λ r. ⌜ r ≡ verdict (controlOf (now (run .entry))) (Receive p q) ⌝ }
 {

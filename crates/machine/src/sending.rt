@@ -49,6 +49,7 @@ pub(crate) fn judge_target(run: &[u32; RUN], p: u32, q: u32) -> Verdict
     }
 }
 
+// The tests of a send, in document 01's order.
 fn judge_send(run: &[u32; RUN], p: u32, q: u32) -> Verdict
     ensures { λ r. ⌜ r ≡ verdict (controlOf (now (run .entry))) (Send p q) ⌝ }
 {
@@ -92,6 +93,7 @@ fn post(run: &mut [u32; RUN], p: u32, q: u32)
     set_letter(&mut *run, q, r, p, CARRIED, reach);
 }
 
+// A message that is kept is put in transit.
 fn deliver(run: &mut [u32; RUN], f: Fate, p: u32, q: u32)
     requires { ⌜ p < mostProcesses ⌝ }
     ensures { λ r. ⌜ now (run .exit) ≡ Calls.delivered f (now (run .entry)) p q ⌝ }

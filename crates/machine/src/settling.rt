@@ -12,6 +12,7 @@ pub(crate) fn less(a: u32, b: u32) -> u32
     if b <= a { a - b } else { 0 }
 }
 
+// One more event is accepted.
 fn count_event(run: &mut [u32; RUN])
     ensures { λ r. ⌜ now (run .exit) ≡ Calls.counted (now (run .entry)) ⌝ }
 {
@@ -19,6 +20,7 @@ fn count_event(run: &mut [u32; RUN])
     set_head(&mut *run, EVENTS, next);
 }
 
+// The events since p was last settled are counted at the stage that it is at.
 pub(crate) fn settle(run: &mut [u32; RUN], p: u32)
     ensures { λ r. ⌜ now (run .exit) ≡ Calls.settled (now (run .entry)) p ⌝ }
 {
@@ -30,6 +32,7 @@ pub(crate) fn settle(run: &mut [u32; RUN], p: u32)
     set_line(&mut *run, p, SINCE, now);
 }
 
+// An event of p is accepted: before anything else of p changes it is counted, at the stage that p is at until now.
 pub(crate) fn begin_event(run: &mut [u32; RUN], p: u32)
     ensures { λ r. ⌜ now (run .exit) ≡ Calls.begun (now (run .entry)) p ⌝ }
 {

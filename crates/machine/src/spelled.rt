@@ -23,6 +23,7 @@ pub(crate) fn people(run: &[u32; RUN]) -> u32
     0
 }
 
+// A choice stands in two words: whether it is present, and what it is.
 fn choice(flag: u32, x: u32) -> Choice
     ensures { λ r. ⌜ r ≡ Spelled.choice flag x ⌝ }
 {
@@ -51,6 +52,7 @@ pub(crate) fn word_of(c: Choice) -> u32
     }
 }
 
+// What process p holds.
 pub(crate) fn holding(run: &[u32; RUN], p: u32) -> Holding
     ensures { λ r. ⌜ r ≡ holdingOf (now (run .entry)) p ⌝ }
 {
@@ -64,6 +66,7 @@ pub(crate) fn holding(run: &[u32; RUN], p: u32) -> Holding
     }
 }
 
+// What the message from q to p for round r says.
 pub(crate) fn message(run: &[u32; RUN], p: u32, r: u32, q: u32) -> Message
     ensures { λ s. ⌜ s ≡ messageOf (now (run .entry)) p r q ⌝ }
 {

@@ -56,6 +56,7 @@ fn listen(run: &[u32; RUN], p: u32, n: u32) -> Gathered
     g
 }
 
+// p holds this from now on.
 fn hold(run: &mut [u32; RUN], p: u32, h: Holding)
     ensures { λ r. ⌜ now (run .exit) ≡ Calls.held (now (run .entry)) p h ⌝ }
 {
@@ -80,6 +81,7 @@ fn advance(run: &mut [u32; RUN], p: u32, r: u32, reach: u32)
     set_line(&mut *run, p, REACH, reach);
 }
 
+// The tests of a step, in document 01's order.
 fn judge_step(run: &[u32; RUN], p: u32) -> Verdict
     ensures { λ r. ⌜ r ≡ verdict (controlOf (now (run .entry))) (Step p) ⌝ }
 {
