@@ -14,6 +14,7 @@ mod stepping;
 pub use broadcasting::broadcast;
 pub use cells::RUN;
 pub use opening::begin;
+pub use opening::clear;
 pub use reading::events;
 pub use reading::site;
 pub use reading::size;

@@ -7,12 +7,12 @@ ghost use Prim.Native.Nat.{ℕ, _≤_, _<_};
 ghost use mathlib.Core.Path.{_≡_};
 ghost use lib.ListN.{length};
 ghost use Rattle.rounds.specs.Limits.{mostProcesses};
-ghost use Rattle.rounds.specs.Run.{opening};
+ghost use Rattle.rounds.specs.Run.{opening, noRun};
 ghost use Rattle.rounds.specs.Verdicts.{openVerdict};
 ghost use Rattle.rounds.specs.declared.Verdict.the-variants.{Accepted};
 ghost use Rattle.words.specs.Layout as Layout;
 ghost use Rattle.words.specs.Calls as Calls;
-ghost use Rattle.words.specs.Calls.{begins};
+ghost use Rattle.words.specs.Calls.{blank, begins};
 ghost use Rattle.words.specs.Shows.{Shows, Given};
 
 // The tests of an opening, in document 01's order.
@@ -39,9 +39,10 @@ fn extent(run: &[u32; RUN]) -> usize
     all.len()
 }
 
-// Every word is 0.
-fn clear(run: &mut [u32; RUN])
-    ensures { λ r. ⌜ now (run .exit) ≡ Calls.blank ⌝ }
+// No run is there: every word is 0.
+pub fn clear(run: &mut [u32; RUN])
+    ensures exact { λ r. ⌜ now (run .exit) ≡ blank ⌝ }
+    ensures meaning { λ r. ⌜ Shows (now (run .exit)) noRun ⌝ }
 {
     let end = extent(&*run);
     let mut i: usize = 0;

@@ -19,17 +19,17 @@ use Rattle.rounds.specs.Run.{Control, Content, Config, openControl, open
 use Rattle.rounds.specs.Stages.{stage, tick}
 use Rattle.rounds.specs.Verdicts.{openVerdict, verdict}
 use Rattle.rounds.specs.Events.{sendControl, sendContent, gathered, messages, apply}
-use Rattle.rounds.specs.Runs.{after, verdicts, Report, reports, replay, replayVerdict, sends}
+use Rattle.rounds.specs.Runs.{after, verdicts, Report, reports, replay, replayVerdict, heeded, sends}
 use Rattle.rounds.specs.Allowed.{Opens, Sends, Allowed}
 use Rattle.rounds.specs.Leads.{Leads, Reached}
 use Rattle.rounds.specs.Claims.{ran, Everyone, Live, Stop, Moment, Had, moments, times, total, Agree}
 use Rattle.rounds.proofs.Answers.{accepted-is, refused-is, opens-right, right-opens, allowed, allows}
 use Rattle.rounds.proofs.Leading.{reached}
 use Rattle.rounds.proofs.Live.{written-once}
-use Rattle.rounds.proofs.Running.{apply-refused, broadcast-sends, broadcast-first, replay-whole, replay-stops}
+use Rattle.rounds.proofs.Running.{apply-refused, broadcast-sends, broadcast-first, replay-whole, replay-stops, replay-heeded}
 use Rattle.rounds.proofs.Effects.{posts-kept, posts-late}
 use Rattle.rounds.proofs.InRuns as run
-use Rattle.rounds.proofs.Independence.{same-control, same-verdicts, same-reports, same-holding}
+use Rattle.rounds.proofs.Independence.{same-control, same-verdicts, same-replay, same-reports, same-holding}
 
 -- ================ Demand 1, of the abstract machine
 -- a refused event changes no state and no count
@@ -66,6 +66,10 @@ replay-is-run c es a = replay-whole c es (accepted-is _ a)
 -- any other stops at its first refused event, with the verdict on that
 pub replay-stops-there : (c : Config) (es : List Event) → (replayVerdict c es ≡ Accepted → ⊥) → Stop c es
 replay-stops-there c es r = replay-stops c es (refused-is _ r)
+
+-- either way it is the run of the events that it comes to before a refused one
+pub replay-goes-so-far : (c : Config) (es : List Event) → replay c es ≡ after c (heeded (c .control) es)
+replay-goes-so-far = replay-heeded
 
 -- ---- the counts and the stages
 -- each count is the number of accepted events just before which the process was at that stage
@@ -200,5 +204,13 @@ independent n v w es =
       heardOf = same-reports n v w es;
       holding = same-holding n v w es;
     }
+
+-- and a replay of the same events comes to the same verdict, after the same events
+pub replays-agree : (n : ℕ) (v w : ℕ → ℕ) (es : List Event)
+    → (replayVerdict (opening n v) es ≡ replayVerdict (opening n w) es)
+    × (replay (opening n v) es ≡ ran n v (heeded (openControl n) es))
+    × (replay (opening n w) es ≡ ran n w (heeded (openControl n) es))
+unfolding opening
+replays-agree n v w es = (same-replay n v w es, replay-heeded (opening n v) es, replay-heeded (opening n w) es)
 
 -- The examples of document 01 and our own are in AllExamples, and what the machine is not in NotAToy.

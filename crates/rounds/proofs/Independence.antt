@@ -15,7 +15,7 @@ use Rattle.rounds.specs.Run.{Control, Content, at₃, openControl, openC
 use Rattle.rounds.specs.Stages.{tick}
 use Rattle.rounds.specs.Verdicts.{accepted, verdict}
 use Rattle.rounds.specs.Events.{timely, sendControl, sendContent, receiveControl, gathered, messages, heardBy, stepControl, stepContent, sendsControl, sendsContent, nextControl, nextContent, ifAccepted, applyControl, applyContent, apply}
-use Rattle.rounds.specs.Runs.{after, verdicts, Report, told, reports}
+use Rattle.rounds.specs.Runs.{after, verdicts, Report, told, reports, replayVerdict}
 use Rattle.rounds.specs.Claims.{Agree}
 use Rattle.rounds.proofs.Updates.{at-one, at-all, at₃-all}
 use Rattle.rounds.proofs.Leading.{leads}
@@ -36,6 +36,13 @@ verdicts-only c d e [] = refl
 verdicts-only c d e (x ∷ es) =
     ap (λ (l : List Verdict). verdict c x ∷ l) (verdicts-only (applyControl c x) (applyContent c d x) (applyContent c e x) es)
 
+replay-only : (c : Control) (d e : Content) (es : List Event)
+    → replayVerdict (record { control = c; content = d }) es ≡ replayVerdict (record { control = c; content = e }) es
+unfolding replayVerdict apply
+replay-only c d e [] = refl
+replay-only c d e (x ∷ es) =
+    ap (λ (v : Verdict). ifAccepted (verdict c x) v (verdict c x)) (replay-only (applyControl c x) (applyContent c d x) (applyContent c e x) es)
+
 reports-only : (c : Control) (d e : Content) (es : List Event)
     → reports (record { control = c; content = d }) es ≡ reports (record { control = c; content = e }) es
 unfolding reports apply
@@ -51,6 +58,10 @@ module _ (n : ℕ) (v w : ℕ → ℕ) (es : List Event) where
   pub same-verdicts : verdicts (opening n v) es ≡ verdicts (opening n w) es
   unfolding opening
   same-verdicts = verdicts-only (openControl n) (openContent v) (openContent w) es
+
+  pub same-replay : replayVerdict (opening n v) es ≡ replayVerdict (opening n w) es
+  unfolding opening
+  same-replay = replay-only (openControl n) (openContent v) (openContent w) es
 
   pub same-reports : reports (opening n v) es ≡ reports (opening n w) es
   unfolding opening

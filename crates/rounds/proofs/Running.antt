@@ -15,7 +15,7 @@ use Rattle.rounds.specs.Run.{Control, Config}
 use Rattle.rounds.specs.Stages.{tick}
 use Rattle.rounds.specs.Verdicts.{accepted, sendVerdict, firstRefusal, verdict}
 use Rattle.rounds.specs.Events.{sendControl, receiveControl, stepControl, sendsControl, sendsContent, nextControl, nextContent, ifAccepted, applyControl, applyContent, apply}
-use Rattle.rounds.specs.Runs.{after, replay, replayVerdict, sends}
+use Rattle.rounds.specs.Runs.{after, replay, replayVerdict, heeded, sends}
 use Rattle.rounds.specs.Claims.{Stop, Moment}
 use Rattle.rounds.proofs.Updates.{at-one}
 use Rattle.rounds.proofs.Answers.{accepted-is, is-accepted, none-refused, send-plain, broadcast-plain, allowed, allows}
@@ -101,6 +101,17 @@ replay-stops c (e ∷ es) a = go (accepted (verdict (c .control) e)) refl a (rep
         }
     go false q z next =
         record { earlier = []; refused = e; later = es; whole = refl; accepted = refl; answer = rw q; state = rw q }
+
+-- so it is the run of the events that it comes to before a refused one
+pub replay-heeded : (c : Config) (es : List Event) → replay c es ≡ after c (heeded (c .control) es)
+unfolding replay heeded after ifAccepted apply
+replay-heeded c [] = refl
+replay-heeded c (e ∷ es) = go (accepted (verdict (c .control) e)) (replay-heeded (apply c e) es)
+  where
+    go : (b : Bool) → replay (apply c e) es ≡ after (apply c e) (heeded (apply c e .control) es)
+        → cond b (replay (apply c e) es) c ≡ after c (cond b (e ∷ heeded (applyControl (c .control) e) es) [])
+    go true ih = ih
+    go false ih = refl
 
 -- one verdict, or what comes where that accepts
 abbrev thenVerdict : Verdict → Verdict → Verdict

@@ -69,3 +69,7 @@ openContent v = record { holding = λ p. opens (v p); mail = λ p r q. message (
 -- N processes with these values
 unfoldable pub opening : ℕ → (ℕ → ℕ) → Config
 opening n v = record { control = openControl n; content = openContent v }
+
+-- no run: what there is before an accepted opening. It has no process
+unfoldable pub noRun : Config
+noRun = opening 0 (λ p. 0)

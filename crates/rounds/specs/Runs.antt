@@ -8,7 +8,7 @@ use Rattle.rounds.specs.declared.Verdict.{Verdict}
 use Rattle.rounds.specs.declared.Verdict.the-variants.{Accepted}
 use Rattle.rounds.specs.Run.{Control, Config}
 use Rattle.rounds.specs.Verdicts.{verdict}
-use Rattle.rounds.specs.Events.{ifAccepted, apply}
+use Rattle.rounds.specs.Events.{ifAccepted, applyControl, apply}
 
 -- ---- all events, the refused ones without effect
 unfoldable pub after : Config → List Event → Config
@@ -47,6 +47,11 @@ replay c (e ∷ es) = let r = replay (apply c e) es in ifAccepted (verdict (c .c
 unfoldable pub replayVerdict : Config → List Event → Verdict
 replayVerdict c [] = Accepted
 replayVerdict c (e ∷ es) = let r = replayVerdict (apply c e) es in ifAccepted (verdict (c .control) e) r (verdict (c .control) e)
+
+-- the events that the replay comes to before a refused one
+unfoldable pub heeded : Control → List Event → List Event
+heeded c [] = []
+heeded c (e ∷ es) = let r = e ∷ heeded (applyControl c e) es in ifAccepted (verdict c e) r []
 
 -- ---- what a broadcast of p stands for: its sends to the processes below k, in ascending order
 unfoldable pub sends : ℕ → ℕ → List Event

@@ -13,7 +13,7 @@ use Rattle.words.specs.declared.Answer.{Answer}
 use Rattle.words.specs.declared.Standing.{Standing}
 use Rattle.words.specs.Layout.{Mem, Head, get, EVENTS}
 use Rattle.words.specs.Spelled.{people, controlOf}
-use Rattle.words.specs.Calls.{begins, applied, answer, standingOf}
+use Rattle.words.specs.Calls.{blank, begins, applied, answer, standingOf}
 
 -- an answer and a memory
 both : {A : Type 0} {a r s : A} {m x y : Mem} → (r ≡ a) × (x ≡ m) → (s ≡ a) × (y ≡ m) → (r ≡ s) × (x ≡ y)
@@ -23,6 +23,9 @@ module _ (m : Mem) {x y : Mem} where
   pub begin-determined : (n : ℕ) (xs : List ℕ) {r s : Verdict} → (r ≡ openVerdict n (length xs)) × (x ≡ begins m n xs)
       → (s ≡ openVerdict n (length xs)) × (y ≡ begins m n xs) → (r ≡ s) × (x ≡ y)
   begin-determined n xs p q = both p q
+
+  pub clear-determined : x ≡ blank → y ≡ blank → x ≡ y
+  clear-determined p q = determined p q
 
   pub send-determined : (p q : ℕ) {r s : Verdict} → (r ≡ verdict (controlOf m) (Send p q)) × (x ≡ applied m (Send p q))
       → (s ≡ verdict (controlOf m) (Send p q)) × (y ≡ applied m (Send p q)) → (r ≡ s) × (x ≡ y)

@@ -11,6 +11,7 @@ pub mod Fitting
 pub mod Answering
 pub mod Opening
 pub mod Meaning
+pub mod Replaying
 pub mod Reading
 pub mod Unique
 pub mod AllExamples

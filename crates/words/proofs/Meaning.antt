@@ -12,7 +12,7 @@ use Rattle.rounds.specs.declared.Event.the-variants.{Send, Receive, Step, Broad
 use Rattle.rounds.specs.declared.Verdict.{Verdict}
 use Rattle.rounds.specs.declared.Verdict.the-variants.{Accepted}
 use Rattle.rounds.specs.Limits.{mostProcesses}
-use Rattle.rounds.specs.Run.{Control, Content, Config, openControl, opening}
+use Rattle.rounds.specs.Run.{Control, Content, Config, openControl, opening, noRun}
 use Rattle.rounds.specs.Stages.{one}
 use Rattle.rounds.specs.Verdicts.{accepted, openVerdict, verdict}
 use Rattle.rounds.specs.Events.{sendsControl, sendsContent, nextControl, nextContent, ifAccepted, apply}
@@ -30,7 +30,7 @@ use Rattle.words.specs.declared.Answer.the-variants.{Judged}
 use Rattle.words.specs.declared.Standing.{Standing}
 use Rattle.words.specs.Layout.{Mem, get, Head, EVENTS}
 use Rattle.words.specs.Spelled.{people, controlOf}
-use Rattle.words.specs.Calls.{opened, begins, sentBelow, done, applied, answer, standingOf}
+use Rattle.words.specs.Calls.{blank, opened, begins, sentBelow, done, applied, answer, standingOf}
 use Rattle.words.specs.Shows.{Shown, Shows, Meant, Given, standing}
 use Rattle.words.proofs.Settling.{people-shown}
 use Rattle.words.proofs.Sending.{sent-shows}
@@ -38,7 +38,7 @@ use Rattle.words.proofs.Receiving.{received-shows}
 use Rattle.words.proofs.Stepping.{stepped-shows}
 use Rattle.words.proofs.Fitting.{fit, round-top, beyond-empty}
 use Rattle.words.proofs.Answering.{verdict-shown, answer-shown}
-use Rattle.words.proofs.Opening.{opened-shown}
+use Rattle.words.proofs.Opening.{blank-shown, opened-shown}
 use Rattle.words.proofs.Reading.{size-means, events-means, site-means}
 
 -- ---- an accepted event
@@ -108,6 +108,11 @@ begin-means m n xs v a given =
     let ok = accepted-is (openVerdict n (length xs)) a in
     rw ok (opening-shows n xs v (opens-right n (length xs) ok .most) given)
 
+-- ---- where no run is: every word is 0
+pub blank-shows : Shows blank noRun
+unfolding noRun opening openControl
+blank-shows = record { values = λ p. 0; reports = []; reached = stays; few = omega arith; shown = blank-shown (λ p. 0) }
+
 -- ---- a refusal leaves every word as it was, whatever the memory holds; an accepted opening leaves none
 pub refused-unchanged : (m : Mem) (e : Event) → accepted (verdict (controlOf m) e) ≡ false → applied m e ≡ m
 unfolding applied ifAccepted
@@ -136,6 +141,9 @@ answered-meant m e x = (x, λ c k. rw (x .0, x .1) (means m c e k))
 pub begin-meant : (m : Mem) (n : ℕ) (xs : List ℕ) {r : Verdict} {b : Mem} → (r ≡ openVerdict n (length xs)) × (b ≡ begins m n xs)
     → ((r ≡ openVerdict n (length xs)) × (b ≡ begins m n xs)) × (r ≡ Accepted → (v : ℕ → ℕ) → Given n xs v → Shows b (opening n v))
 begin-meant m n xs x = (x, λ a v given. rw (x .1) (begin-means m n xs v (sym (x .0) ∙ a) given))
+
+pub clear-meant : {b : Mem} → b ≡ blank → (b ≡ blank) × Shows b noRun
+clear-meant x = (x, rw x blank-shows)
 
 pub size-meant : (m : Mem) {r : ℕ} → r ≡ people m → (r ≡ people m) × ((c : Config) → Shows m c → r ≡ c .control .size)
 size-meant m x = (x, λ c k. x ∙ size-means m c k)

@@ -154,6 +154,17 @@ module _ (m : Mem) (n x : ℕ) (v : ℕ → ℕ) (f : Fresh m x (v x)) where
       }
 
 -- ---- the opened memory
+-- with no word written there is no process
+pub blank-shown : (v : ℕ → ℕ) → Shown blank (openControl 0) (openContent v)
+unfolding openControl
+blank-shown v =
+    record {
+      long = blank-length;
+      size = blank-zero (Head SIZE) (omega arith);
+      events = blank-zero (Head EVENTS) (omega arith);
+      each = λ p h. absurd (omega arith);
+    }
+
 pub opened-shown : (n : ℕ) (xs : List ℕ) (v : ℕ → ℕ) → n ≤ mostProcesses → Given n xs v → Shown (opened n xs) (openControl n) (openContent v)
 unfolding opened openControl
 opened-shown n xs v few given =

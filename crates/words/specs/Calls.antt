@@ -13,6 +13,8 @@ use Rattle.voting.specs.Voting.{rule}
 use Rattle.rounds.specs.declared.Stage.the-variants.{Sending, Collecting, Pending, Idle}
 use Rattle.rounds.specs.declared.Event.{Event}
 use Rattle.rounds.specs.declared.Event.the-variants.{Send, Receive, Step, Broadcast}
+use Rattle.rounds.specs.declared.Verdict.{Verdict}
+use Rattle.rounds.specs.declared.Verdict.the-variants.{Accepted}
 use Rattle.rounds.specs.Run.{Control}
 use Rattle.rounds.specs.Stages.{stage, index}
 use Rattle.rounds.specs.Verdicts.{accepted, openVerdict, ahead, verdict}
@@ -145,6 +147,15 @@ done m (Broadcast p) = sentBelow (people m) m p
 
 unfoldable pub applied : Mem → Event → Mem
 applied m e = ifAccepted (verdict (controlOf m) e) (done m e) m
+
+-- ---- a list of events, up to the first that is refused
+unfoldable pub replayed : Mem → List Event → Mem
+replayed m [] = m
+replayed m (e ∷ es) = let r = replayed (applied m e) es in ifAccepted (verdict (controlOf m) e) r m
+
+unfoldable pub replayedVerdict : Mem → List Event → Verdict
+replayedVerdict m [] = Accepted
+replayedVerdict m (e ∷ es) = let r = replayedVerdict (applied m e) es in ifAccepted (verdict (controlOf m) e) r (verdict (controlOf m) e)
 
 -- ---- what an event is answered with
 unfoldable pub answer : Control → Event → Answer

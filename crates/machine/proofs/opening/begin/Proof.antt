@@ -33,7 +33,7 @@ returns c =
     let c8 = c4 .before .before .before .before in
     let judged = c8 .judge-opening .ensures in
     let ok = answered judged (c4 .before .before .before .accepted .ensures) (c4 .before .before .if1 .taken) in
-    begin-meant _ _ _ (judged, rw (ok, c .place-all .ensures, c .before .before .set-head .ensures, c4 .clear .ensures, opens-right _ _ ok .each))
+    begin-meant _ _ _ (judged, rw (ok, c .place-all .ensures, c .before .before .set-head .ensures, c4 .clear .ensures .0, opens-right _ _ ok .each))
 
 returns-2 : tie.Need-returns-2
 unfolding begins opened ifAccepted

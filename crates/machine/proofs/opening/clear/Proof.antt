@@ -7,6 +7,7 @@ use native.Mathlib.Omega.{arith}
 use native.Mathlib.Numerals.{add-one}
 use lib.ListN.{length, set, replicate}
 use Rattle.words.specs.Calls.{blank}
+use Rattle.words.proofs.Meaning.{clear-meant}
 use borrow.Author.Needs.{needs}
 use Rattle.machine.proofs.opening.clear.Statement.{statement}
 use Rattle.machine.proofs.opening.clear.Tie as tie
@@ -65,7 +66,7 @@ returns c =
     let end = c .before .before .extent .ensures .0 in
     let long = c .before .before .extent .ensures .1 in
     let e : l .i ≡ length m = omega arith in
-    l .inv .1 ∙ ap (λ (k : ℕ). zeroed k m) e ∙ zeroed-all m ∙ ap (λ (k : ℕ). replicate k 0) long
+    clear-meant (l .inv .1 ∙ ap (λ (k : ℕ). zeroed k m) e ∙ zeroed-all m ∙ ap (λ (k : ℕ). replicate k 0) long)
 
 pub clear-spec : {M : Type 1} → statement M
 clear-spec =
