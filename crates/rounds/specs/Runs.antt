@@ -2,12 +2,13 @@
 -- Assumes nothing.
 use Prim.Native.Nat.{ℕ, zero, suc}
 use mathlib.Core.List.{List, [], _∷_, _++_}
+use lib.ListN.{getD, length}
 use Rattle.rounds.specs.declared.Event.{Event}
 use Rattle.rounds.specs.declared.Event.the-variants.{Send, Receive, Step, Broadcast}
 use Rattle.rounds.specs.declared.Verdict.{Verdict}
 use Rattle.rounds.specs.declared.Verdict.the-variants.{Accepted}
-use Rattle.rounds.specs.Run.{Control, Config}
-use Rattle.rounds.specs.Verdicts.{verdict}
+use Rattle.rounds.specs.Run.{Control, Config, openControl, opening, noRun}
+use Rattle.rounds.specs.Verdicts.{openVerdict, verdict}
 use Rattle.rounds.specs.Events.{ifAccepted, applyControl, apply}
 
 -- ---- all events, the refused ones without effect
@@ -52,6 +53,19 @@ replayVerdict c (e ∷ es) = let r = replayVerdict (apply c e) es in ifAccepted 
 unfoldable pub heeded : Control → List Event → List Event
 heeded c [] = []
 heeded c (e ∷ es) = let r = e ∷ heeded (applyControl c e) es in ifAccepted (verdict c e) r []
+
+-- ---- a night: n processes open with these values, and then these events happen, up to the first that is refused. A refused opening gives no run
+unfoldable pub valueAt : List ℕ → ℕ → ℕ
+valueAt xs p = getD xs p 0
+
+unfoldable pub nightVerdict : ℕ → List ℕ → List Event → Verdict
+nightVerdict n xs es = ifAccepted (openVerdict n (length xs)) (replayVerdict (opening n (valueAt xs)) es) (openVerdict n (length xs))
+
+unfoldable pub night : ℕ → List ℕ → List Event → Config
+night n xs es = ifAccepted (openVerdict n (length xs)) (replay (opening n (valueAt xs)) es) noRun
+
+unfoldable pub nightReports : ℕ → List ℕ → List Event → List Report
+nightReports n xs es = ifAccepted (openVerdict n (length xs)) (reports (opening n (valueAt xs)) (heeded (openControl n) es)) []
 
 -- ---- what a broadcast of p stands for: its sends to the processes below k, in ascending order
 unfoldable pub sends : ℕ → ℕ → List Event

@@ -157,6 +157,10 @@ unfoldable pub replayedVerdict : Mem → List Event → Verdict
 replayedVerdict m [] = Accepted
 replayedVerdict m (e ∷ es) = let r = replayedVerdict (applied m e) es in ifAccepted (verdict (controlOf m) e) r (verdict (controlOf m) e)
 
+-- a night from its opening on, whatever the memory held; a refused opening leaves no run
+unfoldable pub nightWords : ℕ → List ℕ → List Event → Mem
+nightWords n xs es = ifAccepted (openVerdict n (length xs)) (replayed (opened n xs) es) blank
+
 -- ---- what an event is answered with
 unfoldable pub answer : Control → Event → Answer
 answer c (Send p q) = Judged (verdict c (Send p q))
