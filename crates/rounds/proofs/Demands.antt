@@ -6,6 +6,7 @@ use mathlib.Core.Path.{_≡_}
 use mathlib.Core.Logic.{_↔_}
 use mathlib.Core.Bool.{true, false}
 use mathlib.Core.List.{List, _++_}
+use lib.ListN.{length}
 use Rattle.sets.specs.Sets.{has, members}
 use Rattle.voting.specs.declared.Message.{Message}
 use Rattle.voting.specs.Voting.{message, rule}
@@ -19,7 +20,7 @@ use Rattle.rounds.specs.Run.{Control, Content, Config, openControl, open
 use Rattle.rounds.specs.Stages.{stage, tick}
 use Rattle.rounds.specs.Verdicts.{openVerdict, verdict}
 use Rattle.rounds.specs.Events.{sendControl, sendContent, gathered, messages, apply}
-use Rattle.rounds.specs.Runs.{after, verdicts, Report, reports, replay, replayVerdict, heeded, sends}
+use Rattle.rounds.specs.Runs.{after, verdicts, Report, reports, replay, replayVerdict, heeded, valueAt, nightVerdict, night, nightReports, sends}
 use Rattle.rounds.specs.Allowed.{Opens, Sends, Allowed}
 use Rattle.rounds.specs.Leads.{Leads, Reached}
 use Rattle.rounds.specs.Claims.{ran, Everyone, Live, Stop, Moment, Had, moments, times, total, Agree}
@@ -29,7 +30,8 @@ use Rattle.rounds.proofs.Live.{written-once}
 use Rattle.rounds.proofs.Running.{apply-refused, broadcast-sends, broadcast-first, replay-whole, replay-stops, replay-heeded}
 use Rattle.rounds.proofs.Effects.{posts-kept, posts-late}
 use Rattle.rounds.proofs.InRuns as run
-use Rattle.rounds.proofs.Independence.{same-control, same-verdicts, same-replay, same-reports, same-holding}
+use Rattle.rounds.proofs.Independence.{same-control, same-verdicts, same-reports, same-holding}
+use Rattle.rounds.proofs.Nights.{same-verdict, same-night, same-told, same-held}
 
 -- ================ Demand 1, of the abstract machine
 -- a refused event changes no state and no count
@@ -205,12 +207,22 @@ independent n v w es =
       holding = same-holding n v w es;
     }
 
--- and a replay of the same events comes to the same verdict, after the same events
-pub replays-agree : (n : ℕ) (v w : ℕ → ℕ) (es : List Event)
-    → (replayVerdict (opening n v) es ≡ replayVerdict (opening n w) es)
-    × (replay (opening n v) es ≡ ran n v (heeded (openControl n) es))
-    × (replay (opening n w) es ≡ ran n w (heeded (openControl n) es))
-unfolding opening
-replays-agree n v w es = (same-replay n v w es, replay-heeded (opening n v) es, replay-heeded (opening n w) es)
+-- of two nights of the same events, with as many opening values: how they are answered, all that never sees a value, and what is reported is equal;
+-- and so is what a process holds, where the values agree on its reach after these and any later events
+pub record Alike (n : ℕ) (xs ys : List ℕ) (es : List Event) : Type 0 where
+  pub answer : nightVerdict n xs es ≡ nightVerdict n ys es
+  pub control : night n xs es .control ≡ night n ys es .control
+  pub heardOf : nightReports n xs es ≡ nightReports n ys es
+  pub holding : (later : List Event) (p : ℕ) → Agree (valueAt xs) (valueAt ys) (night n xs (es ++ later) .control .site p .reach)
+      → night n xs es .content .holding p ≡ night n ys es .content .holding p
+
+pub nights-alike : (n : ℕ) (xs ys : List ℕ) (es : List Event) → length xs ≡ length ys → Alike n xs ys es
+nights-alike n xs ys es same =
+    record {
+      answer = same-verdict n xs ys es same;
+      control = same-night n xs ys es same;
+      heardOf = same-told n xs ys es same;
+      holding = same-held n xs ys es same;
+    }
 
 -- The examples of document 01 and our own are in AllExamples, and what the machine is not in NotAToy.

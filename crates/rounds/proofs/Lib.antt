@@ -20,3 +20,4 @@ pub mod Running
 pub mod Recorded
 pub mod InRuns
 pub mod Independence
+pub mod Nights
