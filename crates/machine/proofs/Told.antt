@@ -1,26 +1,17 @@
 -- What an accepted event or opening tells of its numbers, whatever the memory holds.
 -- Assumes nothing.
 use Prim.Native.Nat.{ℕ, _≤_, _<_}
-use mathlib.Core.Path.{_≡_, refl, sym, ap, _∙_}
-use mathlib.Core.Bool.{Bool, true, false, cond}
+use mathlib.Core.Path.{_≡_, sym, ap, _∙_}
+use mathlib.Core.Bool.{Bool, true}
 use native.Mathlib.Omega.{arith}
-use lib.Dec.{ltb}
-use borrow.Author.Tests.{ltb-false}
 use Rattle.rounds.specs.Limits.{mostProcesses}
 use Rattle.rounds.specs.declared.Verdict.{Verdict}
 use Rattle.rounds.specs.declared.Event.the-variants.{Send, Receive, Broadcast}
 use Rattle.rounds.specs.Verdicts.{accepted, openVerdict, verdict}
 use Rattle.rounds.proofs.Answers.{opens-right, allowed}
-use Rattle.words.specs.Layout.{Mem, Head, SIZE, get}
+use Rattle.words.specs.Layout.{Mem}
 use Rattle.words.specs.Spelled.{people, controlOf}
-
-pub people-most : (m : Mem) → people m ≤ mostProcesses
-unfolding people
-people-most m = go (get m (Head SIZE)) (ltb mostProcesses (get m (Head SIZE))) refl
-  where
-    go : (n : ℕ) (b : Bool) → ltb mostProcesses n ≡ b → cond b 0 n ≤ mostProcesses
-    go n true e = omega arith
-    go n false e = ltb-false mostProcesses n e
+use Rattle.words.proofs.Reading.{people-most}
 
 pub send-told : (m : Mem) (p q : ℕ) → accepted (verdict (controlOf m) (Send p q)) ≡ true → (p < mostProcesses) × (q < mostProcesses)
 unfolding controlOf

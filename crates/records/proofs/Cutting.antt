@@ -1,20 +1,20 @@
 -- The law of cutting: what is read whole is read the same whatever follows.
 -- Assumes nothing.
-use Prim.Native.Nat.{ℕ, _+_, _*_, _≤_}
+use Prim.Native.Nat.{ℕ, _≤_}
 use native.Mathlib.Omega.{arith}
 use mathlib.Core.Path.{_≡_, refl}
 use mathlib.Core.Bool.{Bool, true, false, cond}
 use mathlib.Core.List.{List, _++_}
 use borrow.Author.Tests.{le-ltb, ltb-false}
 use lib.Dec.{ltb, eqb}
-use lib.ListN.{length, getD, take, drop, length-append, List·getD-append}
+use lib.ListN.{length, drop, length-append, List·getD-append}
 use lib.Seq.{take-append-le, drop-append-le}
 use Rattle.records.specs.declared.Place.{Place}
 use Rattle.records.specs.declared.Place.the-variants.{First, Later, Behind}
 use Rattle.records.specs.declared.Record.{Record}
 use Rattle.records.specs.declared.Record.the-variants.{Cut}
 use Rattle.records.specs.declared.Tag.{Tag}
-use Rattle.records.specs.Records.{unknown, misplaced, sizeOf, made, needs, plain, opening, judged, headed, parse}
+use Rattle.records.specs.Records.{unknown, misplaced, needs, plain, opening, judged, headed, parse}
 
 -- ---- where the bytes are not cut short, r′ is r: by the shape of the definitions
 abbrev Stays : Record → Record → Type 0

@@ -1,5 +1,6 @@
 -- The laws of reading: what is read whole is read the same whatever follows, so that reading in pieces is reading the whole. Rules and Rest serve the
 -- proofs of the functions.
+pub mod AllExamples
 pub mod Cutting
 pub mod Whole
 pub mod Scripts

@@ -4,10 +4,10 @@ use Prim.Native.Nat.{ℕ, zero, suc, _+_, _-_, _*_, _≤_, _<_}
 use native.Mathlib.Omega.{arith}
 use mathlib.Core.Path.{_≡_, refl, sym, ap, _∙_}
 use mathlib.Core.List.{List, [], _∷_, _++_}
-use lib.ListN.{length, take, drop, length-append}
+use lib.ListN.{length, drop}
 use Rattle.rounds.specs.declared.Event.{Event}
 use Rattle.records.specs.declared.Place.{Place}
-use Rattle.records.specs.declared.Place.the-variants.{First, Later, Behind}
+use Rattle.records.specs.declared.Place.the-variants.{Later, Behind}
 use Rattle.records.specs.declared.Fault.{Fault}
 use Rattle.records.specs.declared.Record.{Record}
 use Rattle.records.specs.declared.Record.the-variants.{Opening, Happens, End, Wrong, Cut}

@@ -17,7 +17,7 @@ use Rattle.records.specs.declared.Record.{Record}
 use Rattle.records.specs.declared.Record.the-variants.{Opening, Happens, End, Wrong, Cut}
 use Rattle.records.specs.declared.Tag.{Tag}
 use Rattle.records.specs.declared.Tag.the-variants as tag
-use Rattle.records.specs.Records.{tagOf, unknown, misplaced, sizeOf, made, needs, plain, opening, judged, headed, parse, eventExtent, extent}
+use Rattle.records.specs.Records.{unknown, misplaced, sizeOf, made, needs, plain, opening, judged, headed, parse, eventExtent, extent}
 
 -- ---- a property of records that `Cut` and every `Wrong` have, through the tests
 module _ (P : Record → Type 0) (cut : P Cut) (wrong : (f : Fault) → P (Wrong f)) where

@@ -5,7 +5,7 @@ use mathlib.Core.List.{List, [], _∷_, _++_}
 use lib.ListN.{getD, take, drop}
 use Rattle.rounds.specs.declared.Event.{Event}
 use Rattle.records.specs.declared.Place.{Place}
-use Rattle.records.specs.declared.Place.the-variants.{First, Later, Behind}
+use Rattle.records.specs.declared.Place.the-variants.{Later, Behind}
 use Rattle.records.specs.declared.Record.{Record}
 use Rattle.records.specs.declared.Record.the-variants.{Opening, Happens, End, Wrong, Cut}
 use Rattle.records.specs.Records.{parse, extent}

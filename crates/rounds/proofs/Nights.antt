@@ -1,6 +1,6 @@
 -- Two nights with the same events and as many opening values: what is equal. Assumes nothing.
 use Prim.Native.Nat.{ℕ}
-use mathlib.Core.Path.{_≡_, refl, sym, ap, _∙_, subst}
+use mathlib.Core.Path.{_≡_, refl, ap, _∙_, subst}
 use mathlib.Core.Bool.{Bool, true, false, cond}
 use mathlib.Core.List.{List, [], _∷_, _++_}
 use lib.ListN.{length}
@@ -8,7 +8,7 @@ use Rattle.rounds.specs.declared.Event.{Event}
 use Rattle.rounds.specs.Run.{Control, Config, openControl, opening, noRun}
 use Rattle.rounds.specs.Verdicts.{accepted, openVerdict, verdict}
 use Rattle.rounds.specs.Events.{ifAccepted, applyControl}
-use Rattle.rounds.specs.Runs.{after, reports, replay, replayVerdict, heeded, valueAt, nightVerdict, night, nightReports}
+use Rattle.rounds.specs.Runs.{after, replay, heeded, valueAt, nightVerdict, night, nightReports}
 use Rattle.rounds.specs.Claims.{Agree}
 use Rattle.rounds.proofs.Running.{replay-heeded}
 use Rattle.rounds.proofs.Independence.{same-control, same-replay, same-reports, same-holding}

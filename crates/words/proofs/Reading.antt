@@ -1,19 +1,31 @@
 -- What is read of a memory that shows a configuration: its size, its events, and all that is shown of a process.
 -- Assumes nothing.
-use Prim.Native.Nat.{ℕ, _+_, _-_, _<_}
+use Prim.Native.Nat.{ℕ, _+_, _≤_, _<_}
 use native.Mathlib.Omega.{arith}
-use mathlib.Core.Path.{_≡_}
-use borrow.Author.Tests.{lt-leb}
+use mathlib.Core.Path.{_≡_, refl}
+use mathlib.Core.Bool.{Bool, true, false, cond}
+use lib.Dec.{ltb}
+use borrow.Author.Tests.{lt-leb, ltb-false}
+use Rattle.rounds.specs.Limits.{mostProcesses}
 use Rattle.rounds.specs.declared.Stage.{Stage}
 use Rattle.rounds.specs.declared.Stage.the-variants.{Sending, Collecting, Pending, Idle}
 use Rattle.rounds.specs.Run.{Config}
 use Rattle.rounds.specs.Claims.{total}
-use Rattle.words.specs.Layout.{Mem, Head, get, EVENTS}
+use Rattle.words.specs.Layout.{Mem, Head, get, SIZE, EVENTS}
 use Rattle.words.specs.Spelled.{word, people, countOf}
 use Rattle.words.specs.Calls.{standingOf}
 use Rattle.words.specs.Shows.{Shows, standing}
 use Rattle.words.proofs.Settling.{Fit, word-fits, round-word, reach-word, people-shown, stage-shown}
 use Rattle.words.proofs.Fitting.{fit, total-of}
+
+-- there are never more than the most, whatever the memory holds
+pub people-most : (m : Mem) → people m ≤ mostProcesses
+unfolding people
+people-most m = go (get m (Head SIZE)) (ltb mostProcesses (get m (Head SIZE))) refl
+  where
+    go : (n : ℕ) (b : Bool) → ltb mostProcesses n ≡ b → cond b 0 n ≤ mostProcesses
+    go n true e = omega arith
+    go n false e = ltb-false mostProcesses n e
 
 module _ (m : Mem) (c : Config) (k : Shows m c) where
   pub size-means : people m ≡ c .control .size

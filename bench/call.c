@@ -1,0 +1,172 @@
+/* The C call on a trace of a million events: sixteen processes in lock step, 1,893 rounds, 999,504 events, a record for each. The trace is read twenty
+   times. With -DPEER the call is the one below, on the machine of machine.h: the peer, written as one would write it by hand; else it is
+   libtongsparkle.a's. What the report must hold at the end is known, and 'ok' is written where it is so. */
+#include <stdio.h>
+#include <stdlib.h>
+
+#include "../include/tongsparkle.h"
+
+enum { PROCESSES = 16, ROUNDS = 1893, TIMES = 20 };
+
+#ifdef PEER
+#include "machine.h"
+
+static int broadcast(uint32_t *run, uint8_t p)
+{
+    if (p >= run[SIZE])
+        return 2;
+    if (run[EVENTS] + run[SIZE] > MOST_EVENTS)
+        return 8;
+    uint32_t *s = line(run, p);
+    for (uint32_t q = 0; q < run[SIZE]; q++) {
+        if (s[SENT] >> q & 1)
+            return 3;
+        if ((int64_t)s[ROUND] - (int64_t)line(run, q)[ROUND] == WINDOW)
+            return 4;
+    }
+    for (uint32_t q = 0; q < run[SIZE]; q++)
+        send_to(run, p, (uint8_t)q);
+    return 0;
+}
+
+static uint32_t word(const uint8_t *b) { return (uint32_t)b[0] << 24 | (uint32_t)b[1] << 16 | (uint32_t)b[2] << 8 | b[3]; }
+
+static void put(uint8_t *b, uint32_t x)
+{
+    b[0] = (uint8_t)(x >> 24);
+    b[1] = (uint8_t)(x >> 16);
+    b[2] = (uint8_t)(x >> 8);
+    b[3] = (uint8_t)x;
+}
+
+static uint32_t records(uint32_t *run, const uint8_t *w, size_t left)
+{
+    for (int first = 1;; first = 0) {
+        if (left < 3)
+            return 9;
+        uint32_t tag = w[0], length = (uint32_t)w[1] << 8 | w[2], number = 0;
+        const uint8_t *body = w + 3;
+        left -= 3;
+        switch (tag) {
+        case 0x01:
+            if (!first)
+                return 12;
+            if (length == 0)
+                return 11;
+            if (left < 1)
+                return 9;
+            if (length != 1 + 4 * (uint32_t)body[0])
+                return 11;
+            break;
+        case 0x10:
+        case 0x11:
+        case 0x12:
+        case 0x13:
+        case 0x7f:
+            if (first)
+                return 12;
+            if (length != (tag < 0x12 ? 2 : tag < 0x14 ? 1 : 0))
+                return 11;
+            break;
+        default:
+            return 10;
+        }
+        if (left < length)
+            return 9;
+        switch (tag) {
+        case 0x01: {
+            uint32_t values[255];
+            for (uint32_t p = 0; p < body[0]; p++)
+                values[p] = word(body + 1 + 4 * p);
+            number = (uint32_t)begin(run, body[0], values, body[0]);
+            break;
+        }
+        case 0x10:
+            number = (uint32_t)send_to(run, body[0], body[1]);
+            break;
+        case 0x11:
+            number = (uint32_t)receive_from(run, body[0], body[1]);
+            break;
+        case 0x12:
+            number = (uint32_t)step(run, body[0]);
+            break;
+        case 0x13:
+            number = (uint32_t)broadcast(run, body[0]);
+            break;
+        default:
+            return left ? 13 : 0;
+        }
+        if (number)
+            return number;
+        w = body + length;
+        left -= length;
+    }
+}
+
+uint32_t tongsparkle_replay(const uint8_t *trace, size_t trace_len, uint8_t *report, size_t report_len)
+{
+    uint32_t run[RUN];
+    if (report_len < TONGSPARKLE_ROOM)
+        return 14;
+    memset(run, 0, sizeof run);
+    uint32_t number = records(run, trace, trace_len);
+    for (uint32_t p = 0; p < run[SIZE]; p++) {
+        uint8_t *row = report + TONGSPARKLE_ROW * p;
+        settle(run, p);
+        put(row + TONGSPARKLE_ROUND, line(run, p)[ROUND]);
+        for (int k = 0; k < 4; k++)
+            put(row + TONGSPARKLE_SENDING + 4 * k, line(run, p)[COUNTS + k]);
+        put(row + TONGSPARKLE_REACH, line(run, p)[REACH]);
+    }
+    return number;
+}
+#endif
+
+static uint8_t *at;
+
+static void record(unsigned tag, unsigned length, unsigned p, unsigned q)
+{
+    *at++ = (uint8_t)tag;
+    *at++ = 0;
+    *at++ = (uint8_t)length;
+    if (length > 0)
+        *at++ = (uint8_t)p;
+    if (length > 1)
+        *at++ = (uint8_t)q;
+}
+
+static uint32_t number(const uint8_t *b) { return (uint32_t)b[0] << 24 | (uint32_t)b[1] << 16 | (uint32_t)b[2] << 8 | b[3]; }
+
+int main(void)
+{
+    uint8_t *trace = malloc(6000000), report[TONGSPARKLE_ROOM];
+    if (!trace)
+        return 2;
+    at = trace;
+    record(0x01, 0, 0, 0);
+    at[-1] = 1 + 4 * PROCESSES;
+    *at++ = PROCESSES;
+    for (unsigned p = 0; p < PROCESSES; p++)
+        *at++ = 0, *at++ = 0, *at++ = 0, *at++ = (uint8_t)(7 * p % 16);
+    for (int round = 0; round < ROUNDS; round++) {
+        for (unsigned p = 0; p < PROCESSES; p++)
+            for (unsigned q = 0; q < PROCESSES; q++)
+                record(0x10, 2, p, q);
+        for (unsigned p = 0; p < PROCESSES; p++) {
+            for (unsigned q = 0; q < PROCESSES; q++)
+                record(0x11, 2, p, q);
+            record(0x12, 1, p, 0);
+        }
+    }
+    record(0x7f, 0, 0, 0);
+    uint32_t given = 0;
+    for (int k = 0; k < TIMES; k++)
+        given += tongsparkle_replay(trace, (size_t)(at - trace), report, sizeof report);
+    uint32_t sum = 0;
+    for (unsigned k = TONGSPARKLE_SENDING; k <= TONGSPARKLE_IDLE; k += 4)
+        sum += number(report + 15 * TONGSPARKLE_ROW + k);
+    if (given == 0 && sum == 999504 && number(report) == ROUNDS + 1 && number(report + TONGSPARKLE_REACH) == 65535)
+        puts("ok");
+    free(trace);
+    return 0;
+}

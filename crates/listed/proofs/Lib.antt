@@ -1,0 +1,4 @@
+-- What the proofs of the list's functions share.
+pub mod Turning
+pub mod SameRun
+pub mod Walking

@@ -1,0 +1,2 @@
+-- The definitions: what an event of the list is to the round machine.
+pub mod Listed

@@ -1,0 +1,60 @@
+-- The front page of the call: what the report is of a run, and that two traces that differ in opening values alone have the same number and report.
+-- Assumes nothing.
+use Prim.Native.Nat.{ℕ, zero, suc, _≤_, _<_}
+use native.Mathlib.Omega.{arith}
+use mathlib.Core.Path.{_≡_, refl, ap, _∙_}
+use mathlib.Core.List.{List}
+use borrow.Author.Tests.{lt-ltb, le-ltb}
+use lib.ListN.{length}
+use lib.Seq.{sets}
+use Rattle.sets.proofs.Determined.{determined}
+use Rattle.rounds.specs.Run.{Config}
+use Rattle.words.specs.Layout.{Mem}
+use Rattle.words.specs.Spelled.{people}
+use Rattle.words.specs.Calls.{standingOf}
+use Rattle.words.specs.Shows.{Shows, standing}
+use Rattle.words.proofs.Reading.{size-means, site-means}
+use Rattle.trace.specs.declared.Ending.{Ending}
+use Rattle.trace.specs.Outcome.{endingNumber, outcome}
+use Rattle.trace.specs.Claims.{Revalued}
+use Rattle.trace.proofs.Values.{values-alone}
+use Rattle.tongsparkle.specs.Report.{row, rows, reportOf, room, numberGiven, over, reportLeft, rowOf, rowsBelow}
+use Rattle.tongsparkle.proofs.Bytes.{sets-over, rows-length}
+
+-- ---- what is written of a memory is the report of the run that it shows
+module _ (m : Mem) (c : Config) (k : Shows m c) where
+  rows-shown : (n : ℕ) → n ≤ c .control .size → rowsBelow n (standingOf m) ≡ rows n (c .control)
+  unfolding rowsBelow rows rowOf row standing
+  rows-shown zero h = refl
+  rows-shown (suc n) h = rw (rows-shown n (omega arith), site-means m c k n (omega arith))
+
+  pub report-shown : (report : List ℕ) → room ≤ length report
+      → sets report 0 (rowsBelow (people m) (standingOf m)) ≡ over (reportOf (c .control)) report
+  unfolding reportOf
+  report-shown report h =
+      let n = c .control .size in
+      let few = k .few in
+      sets-over (rowsBelow (people m) (standingOf m)) report (let l = rows-length (people m) (standingOf m) in let s = size-means m c k in omega arith)
+      ∙ ap (λ (w : List ℕ). over w report) (rw (size-means m c k) (rows-shown n (omega arith)))
+
+-- ---- so the call, with too little room and with enough of it, gives and leaves what it must
+pub no-room : (w report : List ℕ) → length report < room → (14 ≡ numberGiven w report) × (report ≡ reportLeft w report)
+unfolding numberGiven reportLeft
+no-room w report h = (rw (lt-ltb (length report) room h), rw (lt-ltb (length report) room h))
+
+pub room-enough : (w report : List ℕ) {m : Mem} {x : Ending} {r : ℕ} {left : List ℕ} → room ≤ length report → Shows m (outcome w .config)
+    → x ≡ outcome w .ending → r ≡ endingNumber x → left ≡ sets report 0 (rowsBelow (people m) (standingOf m))
+    → (r ≡ numberGiven w report) × (left ≡ reportLeft w report)
+unfolding numberGiven reportLeft
+room-enough w report {m} h k ends number rows =
+    (rw (le-ltb (length report) room h, ← ends) number, rw (le-ltb (length report) room h) (rows ∙ report-shown m (outcome w .config) k report h))
+
+-- ---- two traces that differ in the values of their opening alone have the same number and the same report
+pub report-blind : (w u report : List ℕ) → Revalued w u → (numberGiven w report ≡ numberGiven u report) × (reportLeft w report ≡ reportLeft u report)
+unfolding numberGiven reportLeft
+report-blind w u report d = let b = values-alone w u d in (rw (b .ending), rw (b .control))
+
+-- ---- two results that the contract allows are equal
+pub replay-determined : (w report : List ℕ) {r s : ℕ} {x y : List ℕ} → (r ≡ numberGiven w report) × (x ≡ reportLeft w report)
+    → (s ≡ numberGiven w report) × (y ≡ reportLeft w report) → (r ≡ s) × (x ≡ y)
+replay-determined w report p q = (determined (p .0) (q .0), determined (p .1) (q .1))

@@ -1,0 +1,44 @@
+-- Calls of the monitoring service and what they give and leave, each as a test that computes. Assumes nothing.
+use Prim.Native.Nat.{ℕ}
+use mathlib.Core.Bool.{Bool, _&&_}
+use mathlib.Core.List.{List, [], _∷_, _++_}
+use lib.Dec.{eqb}
+use lib.ListN.{replicate}
+use Rattle.rounds.specs.Examples.{equal}
+use Rattle.records.specs.Examples.{input}
+use Rattle.trace.specs.Examples.{comesTo}
+use Rattle.tongsparkle.specs.Report.{word, row, rows, reportOf, numberGiven, over, reportLeft}
+
+-- the number given, and every byte of the report afterwards. To unfold it is to unfold reading, machine and report
+unfoldable pub gives : List ℕ → List ℕ → ℕ → List ℕ → Bool
+unfolding comesTo word row rows reportOf numberGiven over reportLeft
+gives trace report number left = eqb (numberGiven trace report) number && equal (reportLeft trace report) left
+
+-- a report of so many bytes, each of them 5
+abbrev fives : ℕ → List ℕ
+fives n = replicate n 5
+
+-- the rows of document 01's trace, as its sheet has them
+abbrev inputRows : List ℕ
+inputRows =
+    0 ∷ 0 ∷ 0 ∷ 2 ∷ 0 ∷ 0 ∷ 0 ∷ 2 ∷ 0 ∷ 0 ∷ 0 ∷ 2 ∷ 0 ∷ 0 ∷ 0 ∷ 1 ∷ 0 ∷ 0 ∷ 0 ∷ 1 ∷ 0 ∷ 0 ∷ 0 ∷ 3
+    ∷ 0 ∷ 0 ∷ 0 ∷ 1 ∷ 0 ∷ 0 ∷ 0 ∷ 6 ∷ 0 ∷ 0 ∷ 0 ∷ 0 ∷ 0 ∷ 0 ∷ 0 ∷ 0 ∷ 0 ∷ 0 ∷ 0 ∷ 0 ∷ 0 ∷ 0 ∷ 0 ∷ 2
+    ∷ []
+
+unfoldable pub examples : List Bool
+unfolding gives
+examples =
+    -- document 01's trace, with just enough room and with more
+    gives input (fives 384) 0 (inputRows ++ fives 336)
+    ∷ gives input (fives 400) 0 (inputRows ++ fives 352)
+    -- a byte less: nothing is written, though two rows would fit
+    ∷ gives input (fives 383) 14 (fives 383)
+    ∷ gives [] [] 14 []
+    -- a refused event leaves the report of the accepted ones
+    ∷ gives (input ++ (0 ∷ [])) (fives 384) 13 (inputRows ++ fives 336)
+    -- without an accepted opening nothing is written
+    ∷ gives [] (fives 384) 9 (fives 384)
+    ∷ gives (1 ∷ 0 ∷ 1 ∷ 0 ∷ []) (fives 384) 1 (fives 384)
+    -- the most significant byte comes first
+    ∷ equal (word 16909060) (1 ∷ 2 ∷ 3 ∷ 4 ∷ [])
+    ∷ []

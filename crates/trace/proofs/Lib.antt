@@ -1,0 +1,6 @@
+-- Start at Meaning, the front page. Below it stand the examples, the record by record laws that the loop of `replay` rests on, and demand 3.
+pub mod Meaning
+pub mod AllExamples
+pub mod Turning
+pub mod Looping
+pub mod Values

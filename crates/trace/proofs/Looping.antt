@@ -1,0 +1,87 @@
+-- What the loop of a replay needs: an accepted record goes over a byte at least and no further than the bytes, and what a turn at a place in the
+-- trace leaves ahead. Assumes nothing.
+use Prim.Native.Nat.{ℕ, _+_, _-_, _≤_, _<_}
+use native.Mathlib.Omega.{arith}
+use mathlib.Core.Path.{_≡_, sym, ap, _∙_, subst}
+use mathlib.Core.Bool.{Bool, true, false, cond}
+use mathlib.Core.List.{List}
+use lib.ListN.{length, take, drop, length-drop}
+use lib.Seq.{drop-drop}
+use Rattle.rounds.specs.declared.Verdict.{Verdict}
+use Rattle.rounds.specs.Verdicts.{accepted}
+use Rattle.rounds.specs.Events.{ifAccepted}
+use Rattle.words.specs.Layout.{Mem}
+use Rattle.words.specs.Calls.{blank}
+use Rattle.records.specs.declared.Place.{Place}
+use Rattle.records.specs.declared.Place.the-variants.{First}
+use Rattle.records.specs.declared.Record.{Record}
+use Rattle.records.specs.declared.Record.the-variants.{Opening, Happens, End, Wrong, Cut}
+use Rattle.records.specs.Records.{parse, extent}
+use Rattle.records.proofs.Rest.{rest}
+use Rattle.records.proofs.Whole.{extent-within, event-some}
+use Rattle.trace.specs.declared.Ending.{Ending}
+use Rattle.trace.specs.declared.Told.{Told}
+use Rattle.trace.specs.declared.Turn.{Turn}
+use Rattle.trace.specs.declared.Turn.the-variants.{More, Goes, Ends}
+use Rattle.trace.specs.Outcome.{atEnd, outcome}
+use Rattle.trace.specs.Turns.{onAnswer, onOpening, turnOn, turn, turned, traceWords}
+use Rattle.trace.proofs.Turning.{Ahead, ahead, more-ahead, goes-ahead, ends-ahead, from-the-start}
+
+-- ---- an accepted record goes over a byte at least, and no further than the bytes
+Within : List ℕ → Turn → Type 0
+Within w More = Unit {0}
+Within w (Goes k next t) = (0 < k) × (k ≤ length w)
+Within w (Ends x) = Unit {0}
+
+if-within : (w : List ℕ) (v : Verdict) (k : ℕ) (next : Place) (t : Told) (x : Ending) → 0 < k → k ≤ length w
+    → Within w (ifAccepted v (Goes k next t) (Ends x))
+unfolding ifAccepted Within
+if-within w v k next t x some l = go (accepted v)
+  where
+    go : (b : Bool) → Within w (cond b (Goes k next t) (Ends x))
+    go true = (some, l)
+    go false = tt
+
+record-within : (m : Mem) (w : List ℕ) (r : Record) → extent r ≤ length w → Within w (turnOn m w r)
+unfolding turnOn onOpening onAnswer extent Within
+record-within m w (Opening n) l = if-within w _ _ _ _ _ (omega arith) l
+record-within m w (Happens e) l = if-within w _ _ _ _ _ (event-some e) l
+record-within m w End l = (omega arith, l)
+record-within m w (Wrong f) l = tt
+record-within m w Cut l = tt
+
+goes-within : {k : ℕ} {next : Place} {t : Told} (pl : Place) (m : Mem) (w : List ℕ) → turn pl m w ≡ Goes k next t → (0 < k) × (k ≤ length w)
+unfolding turn Within
+goes-within pl m w e = subst (Within w) e (record-within m w (parse pl w) (extent-within pl w))
+
+-- ---- the turn at a place of the trace: its bytes are those from the place on, x is its answer, and m′ the memory that it leaves
+module _ (pl : Place) (m m′ : Mem) (w : List ℕ) (at : ℕ) (x : Turn) where
+  pub record Taken : Type 0 where
+    pub within : at ≤ length w
+    pub ahead-of : ahead pl m (drop at w) ≡ ahead First blank w
+    pub answer : x ≡ turn pl m (drop at w)
+    pub words : m′ ≡ turned pl m (drop at w)
+
+  pub taken : (at ≤ length w) × (ahead pl m (drop at w) ≡ ahead First blank w)
+      → (x ≡ turn pl m (take (length w - at) (drop at w))) × (m′ ≡ turned pl m (take (length w - at) (drop at w))) → Taken
+  taken l e = record { within = l .0; ahead-of = l .1; answer = rw rest at (e .0); words = rw rest at (e .1) }
+
+  pub goes-far : {k : ℕ} {next : Place} {t : Told} → Taken → x ≡ Goes k next t → (0 < k) × (at + k ≤ length w)
+  goes-far c e =
+      let far = goes-within pl m (drop at w) (sym (c .answer) ∙ e) in
+      (far .0, omega (arith, far .1, length-drop at w, c .within))
+
+  pub goes-on : {k : ℕ} {next : Place} {t : Told} → Taken → x ≡ Goes k next t → ahead next m′ (drop (at + k) w) ≡ ahead First blank w
+  goes-on {k} c e = rw (c .words, ← drop-drop k at w) (sym (goes-ahead pl m (drop at w) (sym (c .answer) ∙ e)) ∙ c .ahead-of)
+
+  -- where it is the last, the trace has come to its end
+  at-last : {y : Ending} → ahead First blank w ≡ record { ending = y; words = m′ } → (y ≡ outcome w .ending) × (m′ ≡ traceWords w)
+  at-last e =
+      let same = sym e ∙ from-the-start w in
+      (ap (λ (a : Ahead). a .ending) same, ap (λ (a : Ahead). a .words) same)
+
+  pub more-last : Taken → x ≡ More → (atEnd pl ≡ outcome w .ending) × (m′ ≡ traceWords w)
+  more-last c e = at-last (rw (c .words) (sym (c .ahead-of) ∙ more-ahead pl m (drop at w) (sym (c .answer) ∙ e)))
+
+  pub ends-last : {y : Ending} → Taken → x ≡ Ends y → (y ≡ outcome w .ending) × (m′ ≡ traceWords w)
+  ends-last c e = at-last (rw (c .words) (sym (c .ahead-of) ∙ ends-ahead pl m (drop at w) (sym (c .answer) ∙ e)))

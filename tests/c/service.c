@@ -1,0 +1,239 @@
+/* The monitoring service's side of the call, as a test: document 01's example, every number 0 to 14, and every byte that must stay as it was.
+
+   Trace and report each end at a page that may not be touched and the report begins behind one, so that a byte read or written outside them ends
+   the program. Says 'N passed, M failed', and exits with 0 only where nothing failed. */
+
+#include <stdio.h>
+#include <stdlib.h>
+#include <string.h>
+#include <sys/mman.h>
+#include <unistd.h>
+
+#include "tongsparkle.h"
+
+static unsigned passed, failed;
+
+static void check(int holds, const char *what)
+{
+    if (holds) {
+        passed++;
+    } else {
+        failed++;
+        printf("FAILED: %s\n", what);
+    }
+}
+
+/* ---- memory with a page behind it, and one before it, that may not be touched: the last byte of size bytes is the last of its page */
+static uint8_t *guarded(size_t size)
+{
+    size_t page = (size_t)sysconf(_SC_PAGESIZE);
+    size_t inner = (size + page - 1) / page * page + page;
+    uint8_t *start = mmap(NULL, inner + 2 * page, PROT_READ | PROT_WRITE, MAP_PRIVATE | MAP_ANONYMOUS, -1, 0);
+    if (start == MAP_FAILED || mprotect(start, page, PROT_NONE) != 0 || mprotect(start + page + inner, page, PROT_NONE) != 0) {
+        perror("guarded memory");
+        exit(2);
+    }
+    return start + page + inner - size;
+}
+
+/* ---- a trace, record by record */
+enum { LARGEST = 1 << 20 };
+
+static uint8_t written[LARGEST];
+static size_t length;
+
+static void byte(unsigned x)
+{
+    if (length == LARGEST) {
+        fputs("the trace is too long for this test\n", stderr);
+        exit(2);
+    }
+    written[length++] = (uint8_t)x;
+}
+
+static void head(unsigned tag, unsigned body)
+{
+    byte(tag);
+    byte(body / 256);
+    byte(body % 256);
+}
+
+/* An opening in which process p has the value first + p. */
+static void opening(unsigned n, uint32_t first)
+{
+    length = 0;
+    head(0x01, 1 + 4 * n);
+    byte(n);
+    for (uint32_t p = 0; p < n; p++) {
+        uint32_t v = first + p;
+        byte(v >> 24);
+        byte(v >> 16 & 255);
+        byte(v >> 8 & 255);
+        byte(v & 255);
+    }
+}
+
+static void send(unsigned p, unsigned q) { head(0x10, 2); byte(p); byte(q); }
+static void receive(unsigned p, unsigned q) { head(0x11, 2); byte(p); byte(q); }
+static void step(unsigned p) { head(0x12, 1); byte(p); }
+static void broadcast(unsigned p) { head(0x13, 1); byte(p); }
+static void end(void) { head(0x7f, 0); }
+
+/* ---- a call: every byte of the report is 0xA5 before it, and must be so afterwards but for the rows of n processes */
+static uint8_t *report;
+
+static uint32_t number(const uint8_t *row)
+{
+    return (uint32_t)row[0] << 24 | (uint32_t)row[1] << 16 | (uint32_t)row[2] << 8 | row[3];
+}
+
+static uint32_t field(unsigned p, unsigned at)
+{
+    return number(report + TONGSPARKLE_ROW * p + at);
+}
+
+static void call(size_t room, uint32_t wanted, unsigned n, const char *what)
+{
+    uint8_t *trace = guarded(length);
+    memcpy(trace, written, length);
+    report = guarded(room);
+    memset(report, 0xA5, room);
+    uint32_t given = tongsparkle_replay(trace, length, report, room);
+    if (given != wanted)
+        printf("%s: %u, not %u\n", what, (unsigned)given, (unsigned)wanted);
+    check(given == wanted, what);
+    check(memcmp(trace, written, length) == 0, "the trace stays as it was");
+    int stays = 1;
+    for (size_t i = (size_t)TONGSPARKLE_ROW * n; i < room; i++)
+        stays = stays && report[i] == 0xA5;
+    check(stays, "all bytes behind the rows stay as they were");
+    for (unsigned p = 0; p < n; p++)
+        check(field(p, TONGSPARKLE_ROUND) >= 1, "a row that is written has a round");
+}
+
+static void row(unsigned p, uint32_t round, uint32_t s, uint32_t c, uint32_t w, uint32_t i, uint32_t reach, const char *what)
+{
+    check(field(p, TONGSPARKLE_ROUND) == round && field(p, TONGSPARKLE_SENDING) == s && field(p, TONGSPARKLE_COLLECTING) == c
+              && field(p, TONGSPARKLE_PENDING) == w && field(p, TONGSPARKLE_IDLE) == i && field(p, TONGSPARKLE_REACH) == reach,
+          what);
+}
+
+/* Document 01's trace without its end record. */
+static void example(void)
+{
+    length = 0;
+    head(0x01, 9);
+    byte(2);
+    byte(0), byte(0), byte(0), byte(7);
+    byte(0), byte(0), byte(0), byte(4);
+    send(0, 0), send(0, 1), receive(0, 0), send(1, 0), receive(0, 1), step(0);
+}
+
+static void example_rows(void)
+{
+    row(0, 2, 2, 2, 1, 1, 3, "document 01's w line of process 0");
+    row(1, 1, 6, 0, 0, 0, 2, "document 01's w line of process 1");
+}
+
+int main(void)
+{
+    /* 0, with just enough room and with more */
+    example(), end();
+    call(TONGSPARKLE_ROOM, 0, 2, "document 01's trace");
+    example_rows();
+    call(5000, 0, 2, "document 01's trace, with room to spare");
+    example_rows();
+
+    /* 14 comes first, and leaves every byte */
+    call(TONGSPARKLE_ROOM - 1, 14, 0, "room for two rows, but not for sixteen");
+    call(0, 14, 0, "no room at all");
+    length = 0;
+    call(10, 14, 0, "too little room is found before the empty trace");
+
+    /* no opening: nothing is written */
+    call(TONGSPARKLE_ROOM, 9, 0, "an empty trace");
+    opening(0, 0), end();
+    call(TONGSPARKLE_ROOM, 1, 0, "no process");
+    opening(17, 0), end();
+    call(TONGSPARKLE_ROOM, 1, 0, "seventeen processes");
+    opening(255, 0), end();
+    call(TONGSPARKLE_ROOM, 1, 0, "as many processes as a byte can say");
+    length = 0, send(0, 0);
+    call(TONGSPARKLE_ROOM, 12, 0, "an event first");
+    length = 0, head(0x55, 0);
+    call(TONGSPARKLE_ROOM, 10, 0, "an unknown tag first");
+    length = 0, head(0x01, 0);
+    call(TONGSPARKLE_ROOM, 11, 0, "an opening of length 0");
+    opening(3, 1), length--;
+    call(TONGSPARKLE_ROOM, 9, 0, "an opening that lacks its last byte");
+
+    /* a refusal leaves the report of what was accepted before it */
+    example(), send(2, 0), end();
+    call(TONGSPARKLE_ROOM, 2, 2, "a process that is not there");
+    example_rows();
+    example(), send(1, 0), end();
+    call(TONGSPARKLE_ROOM, 3, 2, "sent already");
+    example_rows();
+    example(), receive(1, 1), end();
+    call(TONGSPARKLE_ROOM, 5, 2, "nothing in transit");
+    example_rows();
+    example(), step(1), end();
+    call(TONGSPARKLE_ROOM, 6, 2, "a step before sending to all");
+    example_rows();
+    example();
+    call(TONGSPARKLE_ROOM, 9, 2, "no end record");
+    example_rows();
+    example(), head(0x10, 2), byte(0);
+    call(TONGSPARKLE_ROOM, 9, 2, "half a record");
+    example_rows();
+    example(), head(0x14, 0), end();
+    call(TONGSPARKLE_ROOM, 10, 2, "an unknown tag");
+    example_rows();
+    example(), head(0x12, 2), byte(0), byte(0), end();
+    call(TONGSPARKLE_ROOM, 11, 2, "a step of two bytes");
+    example_rows();
+    example(), head(0x01, 1), byte(0), end();
+    call(TONGSPARKLE_ROOM, 12, 2, "a second opening");
+    example_rows();
+    example(), end(), byte(0);
+    call(TONGSPARKLE_ROOM, 13, 2, "a byte behind the end record");
+    example_rows();
+
+    /* 4: process 0 is at round 9, process 1 at 1 */
+    opening(2, 7);
+    for (int r = 1; r <= 8; r++)
+        broadcast(0), step(0);
+    send(0, 1), end();
+    call(TONGSPARKLE_ROOM, 4, 2, "a lead of 8");
+    row(0, 9, 16, 8, 0, 0, 1, "process 0 at round 9");
+    row(1, 1, 24, 0, 0, 0, 2, "process 1 has not sent");
+
+    /* 7: alone, up to round 65,535 */
+    opening(1, 7);
+    for (unsigned r = 1; r < 65535; r++)
+        broadcast(0), step(0);
+    broadcast(0), step(0), end();
+    call(TONGSPARKLE_ROOM, 7, 1, "a step from the last round");
+    row(0, 65535, 65535, 65534, 0, 0, 1, "alone at round 65,535");
+
+    /* 8: sixteen processes; 272 events a round */
+    opening(16, 100);
+    for (int r = 1; r <= 3677; r++) {
+        for (unsigned p = 0; p < 16; p++)
+            broadcast(p);
+        for (unsigned p = 0; p < 16; p++)
+            step(p);
+    }
+    end();
+    call(TONGSPARKLE_ROOM, 8, 16, "more than a million events");
+    for (unsigned p = 0; p < 16; p++) {
+        uint32_t sum = field(p, TONGSPARKLE_SENDING) + field(p, TONGSPARKLE_COLLECTING) + field(p, TONGSPARKLE_PENDING) + field(p, TONGSPARKLE_IDLE);
+        check(sum == field(0, TONGSPARKLE_SENDING) + field(0, TONGSPARKLE_COLLECTING) + field(0, TONGSPARKLE_PENDING) + field(0, TONGSPARKLE_IDLE),
+              "every process has as many events");
+        check(sum <= 1000000 && sum + 16 > 1000000, "as many as there may be, but for those of one broadcast");
+        check(field(p, TONGSPARKLE_REACH) == 1u << p, "nobody was heard");
+    }
+
+    printf("%u passed, %u failed\n", passed, failed);
+    return failed == 0 && passed > 0 ? 0 : 1;
+}
