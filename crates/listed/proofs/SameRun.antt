@@ -5,21 +5,18 @@ use mathlib.Core.Path.{_≡_, sym, ap, _∙_}
 use mathlib.Core.List.{List}
 use Rattle.sets.proofs.Determined.{determined}
 use Rattle.rounds.specs.declared.Event.{Event}
-use Rattle.rounds.specs.declared.Verdict.the-variants.{Accepted}
 use Rattle.rounds.specs.Verdicts.{numberOf}
-use Rattle.rounds.specs.Run.{Config}
 use Rattle.rounds.specs.Runs.{nightVerdict, night}
 use Rattle.words.specs.Layout.{Mem}
 use Rattle.words.specs.Calls.{nightWords}
 use Rattle.words.specs.Shows.{Shows}
 use Rattle.records.specs.declared.Place.the-variants.{First}
-use Rattle.records.specs.declared.Record.{Record}
 use Rattle.records.specs.declared.Record.the-variants.{Opening}
 use Rattle.records.specs.Records.{parse, extent}
 use Rattle.records.specs.Script.{valuesOf, script}
 use Rattle.trace.specs.Outcome.{endingNumber, outcome}
 use Rattle.trace.specs.Turns.{traceWords}
-use Rattle.trace.proofs.Meaning.{IsNight, read-whole}
+use Rattle.trace.proofs.Meaning.{read-whole}
 use Rattle.listed.specs.declared.Event as listed
 use Rattle.listed.specs.Listed.{eventsOf}
 

@@ -1,0 +1,80 @@
+"""What a script needs to build and run x86-64 programs on this machine, whatever kind of machine it is.
+
+The kit compiles for x86-64. On such a machine its programs run as they are; elsewhere they run under the kit's emulator, and C is compiled by
+gcc-x86-64-linux-gnu, which is installed if it is missing and this is a Debian machine's root.
+"""
+
+import os
+import pathlib
+import platform
+import shutil
+import subprocess
+import sys
+import tempfile
+
+MACHINE = platform.machine()
+NATIVE = MACHINE == "x86_64"
+
+
+def kit():
+    """The folder of the Rattle kit."""
+    if not shutil.which("rt"):
+        sys.exit("the Rattle kit ('rt') must be on the PATH")
+    return pathlib.Path(subprocess.run(["rt", "doc"], check=True, capture_output=True, text=True).stdout.strip()).parent.parent
+
+
+def toolchain():
+    return kit() / "on" / MACHINE / "toolchain"
+
+
+def compiler():
+    """A C compiler for x86-64: $CC, or gcc."""
+    name = os.environ.get("CC", "gcc" if NATIVE else "x86_64-linux-gnu-gcc")
+    if not shutil.which(name) and name == "x86_64-linux-gnu-gcc" and shutil.which("apt-get") and os.geteuid() == 0:
+        for words in (["update"], ["install", "-y", "--no-install-recommends", "gcc-x86-64-linux-gnu", "libc6-dev-amd64-cross"]):
+            subprocess.run(["apt-get", "-q", *words], check=True, stdout=subprocess.DEVNULL)
+    if not shutil.which(name):
+        sys.exit(f"a C compiler for x86-64 is needed: {name} is not on the PATH" + ("" if NATIVE else " (Debian: gcc-x86-64-linux-gnu)"))
+    return name
+
+
+def starter():
+    """The words before an x86-64 program's own."""
+    if NATIVE:
+        return []
+    tools = toolchain()
+    return [tools / "bin" / "qemu-x86_64", tools / "lib" / "ld-linux-x86-64.so.2", "--library-path", tools / "lib"]
+
+
+def static_library(top, name):
+    """Proves the crate and gives the path of its archive."""
+    done = subprocess.run(["rt", "staticlib", name], cwd=top, capture_output=True, text=True)
+    if done.returncode != 0:
+        sys.exit(f"rt staticlib {name} failed:\n{done.stdout}{done.stderr}")
+    return top / "target" / "staticlib" / f"lib{name}.a"
+
+
+def own_object(top, name, out):
+    """The crate's code compiled for this machine itself: the very LLVM module that the kit's compiler is given for the archive."""
+    real = toolchain()
+    with tempfile.TemporaryDirectory() as home:
+        home = pathlib.Path(home)
+        tools = home / "on" / MACHINE / "toolchain"
+        (tools / "bin").mkdir(parents=True)
+        # a kit of links, but for one program: a compiler that keeps what it is given
+        for there, here in ((kit(), home), (real.parent, tools.parent), (real, tools), (real / "bin", tools / "bin")):
+            for entry in there.iterdir():
+                if not (here / entry.name).exists() and entry != real / "bin" / "clang":
+                    (here / entry.name).symlink_to(entry)
+        module = home / "module.bc"
+        keeper = tools / "bin" / "clang"
+        keeper.write_text(f'#!/bin/sh\nfor word in "$@"; do case $word in *.bc) cp "$word" {module} ;; esac; done\nexec {real}/bin/clang "$@"\n')
+        keeper.chmod(0o755)
+        done = subprocess.run(["rt", "staticlib", name], cwd=top, env={**os.environ, "RATTLE_HOME": str(home)}, capture_output=True, text=True)
+        if done.returncode != 0 or not module.exists():
+            sys.exit(f"the LLVM module of {name} could not be had:\n{done.stdout}{done.stderr}")
+        words = [real / "bin" / "clang", f"--target={MACHINE}-unknown-linux-gnu", "-O3", "-fPIC", "-Wno-override-module", "-c", "-x", "ir", module, "-o", out]
+        done = subprocess.run(words, capture_output=True, text=True)
+        if done.returncode != 0:
+            sys.exit(f"the LLVM module of {name} does not compile for {MACHINE}:\n{done.stderr}")
+    return out
