@@ -135,68 +135,83 @@ static void example_rows(void)
     row(1, 1, 6, 0, 0, 0, 2, "document 01's w line of process 1");
 }
 
+/* The names of the header are document 01's numbers. */
+static void names(void)
+{
+    const int numbers[] = {
+        TONGSPARKLE_OK, TONGSPARKLE_BAD_SIZE, TONGSPARKLE_NO_PROCESS, TONGSPARKLE_ALREADY_SENT, TONGSPARKLE_TOO_FAR_AHEAD,
+        TONGSPARKLE_NOTHING_IN_TRANSIT, TONGSPARKLE_NOT_SENT_TO_ALL, TONGSPARKLE_LAST_ROUND, TONGSPARKLE_TOO_MANY_EVENTS,
+        TONGSPARKLE_ENDS_INSIDE, TONGSPARKLE_UNKNOWN_TAG, TONGSPARKLE_WRONG_LENGTH, TONGSPARKLE_WRONG_PLACE, TONGSPARKLE_BYTES_BEHIND,
+        TONGSPARKLE_NO_ROOM,
+    };
+    for (int k = 0; k <= 14; k++)
+        check(numbers[k] == k, "a name of the header has its number");
+}
+
 int main(void)
 {
+    names();
+
     /* 0, with just enough room and with more */
     example(), end();
-    call(TONGSPARKLE_ROOM, 0, 2, "document 01's trace");
+    call(TONGSPARKLE_ROOM, TONGSPARKLE_OK, 2, "document 01's trace");
     example_rows();
-    call(5000, 0, 2, "document 01's trace, with room to spare");
+    call(5000, TONGSPARKLE_OK, 2, "document 01's trace, with room to spare");
     example_rows();
 
     /* 14 comes first, and leaves every byte */
-    call(TONGSPARKLE_ROOM - 1, 14, 0, "room for two rows, but not for sixteen");
-    call(0, 14, 0, "no room at all");
+    call(TONGSPARKLE_ROOM - 1, TONGSPARKLE_NO_ROOM, 0, "room for two rows, but not for sixteen");
+    call(0, TONGSPARKLE_NO_ROOM, 0, "no room at all");
     length = 0;
-    call(10, 14, 0, "too little room is found before the empty trace");
+    call(10, TONGSPARKLE_NO_ROOM, 0, "too little room is found before the empty trace");
 
     /* no opening: nothing is written */
-    call(TONGSPARKLE_ROOM, 9, 0, "an empty trace");
+    call(TONGSPARKLE_ROOM, TONGSPARKLE_ENDS_INSIDE, 0, "an empty trace");
     opening(0, 0), end();
-    call(TONGSPARKLE_ROOM, 1, 0, "no process");
+    call(TONGSPARKLE_ROOM, TONGSPARKLE_BAD_SIZE, 0, "no process");
     opening(17, 0), end();
-    call(TONGSPARKLE_ROOM, 1, 0, "seventeen processes");
+    call(TONGSPARKLE_ROOM, TONGSPARKLE_BAD_SIZE, 0, "seventeen processes");
     opening(255, 0), end();
-    call(TONGSPARKLE_ROOM, 1, 0, "as many processes as a byte can say");
+    call(TONGSPARKLE_ROOM, TONGSPARKLE_BAD_SIZE, 0, "as many processes as a byte can say");
     length = 0, send(0, 0);
-    call(TONGSPARKLE_ROOM, 12, 0, "an event first");
+    call(TONGSPARKLE_ROOM, TONGSPARKLE_WRONG_PLACE, 0, "an event first");
     length = 0, head(0x55, 0);
-    call(TONGSPARKLE_ROOM, 10, 0, "an unknown tag first");
+    call(TONGSPARKLE_ROOM, TONGSPARKLE_UNKNOWN_TAG, 0, "an unknown tag first");
     length = 0, head(0x01, 0);
-    call(TONGSPARKLE_ROOM, 11, 0, "an opening of length 0");
+    call(TONGSPARKLE_ROOM, TONGSPARKLE_WRONG_LENGTH, 0, "an opening of length 0");
     opening(3, 1), length--;
-    call(TONGSPARKLE_ROOM, 9, 0, "an opening that lacks its last byte");
+    call(TONGSPARKLE_ROOM, TONGSPARKLE_ENDS_INSIDE, 0, "an opening that lacks its last byte");
 
     /* a refusal leaves the report of what was accepted before it */
     example(), send(2, 0), end();
-    call(TONGSPARKLE_ROOM, 2, 2, "a process that is not there");
+    call(TONGSPARKLE_ROOM, TONGSPARKLE_NO_PROCESS, 2, "a process that is not there");
     example_rows();
     example(), send(1, 0), end();
-    call(TONGSPARKLE_ROOM, 3, 2, "sent already");
+    call(TONGSPARKLE_ROOM, TONGSPARKLE_ALREADY_SENT, 2, "sent already");
     example_rows();
     example(), receive(1, 1), end();
-    call(TONGSPARKLE_ROOM, 5, 2, "nothing in transit");
+    call(TONGSPARKLE_ROOM, TONGSPARKLE_NOTHING_IN_TRANSIT, 2, "nothing in transit");
     example_rows();
     example(), step(1), end();
-    call(TONGSPARKLE_ROOM, 6, 2, "a step before sending to all");
+    call(TONGSPARKLE_ROOM, TONGSPARKLE_NOT_SENT_TO_ALL, 2, "a step before sending to all");
     example_rows();
     example();
-    call(TONGSPARKLE_ROOM, 9, 2, "no end record");
+    call(TONGSPARKLE_ROOM, TONGSPARKLE_ENDS_INSIDE, 2, "no end record");
     example_rows();
     example(), head(0x10, 2), byte(0);
-    call(TONGSPARKLE_ROOM, 9, 2, "half a record");
+    call(TONGSPARKLE_ROOM, TONGSPARKLE_ENDS_INSIDE, 2, "half a record");
     example_rows();
     example(), head(0x14, 0), end();
-    call(TONGSPARKLE_ROOM, 10, 2, "an unknown tag");
+    call(TONGSPARKLE_ROOM, TONGSPARKLE_UNKNOWN_TAG, 2, "an unknown tag");
     example_rows();
     example(), head(0x12, 2), byte(0), byte(0), end();
-    call(TONGSPARKLE_ROOM, 11, 2, "a step of two bytes");
+    call(TONGSPARKLE_ROOM, TONGSPARKLE_WRONG_LENGTH, 2, "a step of two bytes");
     example_rows();
     example(), head(0x01, 1), byte(0), end();
-    call(TONGSPARKLE_ROOM, 12, 2, "a second opening");
+    call(TONGSPARKLE_ROOM, TONGSPARKLE_WRONG_PLACE, 2, "a second opening");
     example_rows();
     example(), end(), byte(0);
-    call(TONGSPARKLE_ROOM, 13, 2, "a byte behind the end record");
+    call(TONGSPARKLE_ROOM, TONGSPARKLE_BYTES_BEHIND, 2, "a byte behind the end record");
     example_rows();
 
     /* 4: process 0 is at round 9, process 1 at 1 */
@@ -204,7 +219,7 @@ int main(void)
     for (int r = 1; r <= 8; r++)
         broadcast(0), step(0);
     send(0, 1), end();
-    call(TONGSPARKLE_ROOM, 4, 2, "a lead of 8");
+    call(TONGSPARKLE_ROOM, TONGSPARKLE_TOO_FAR_AHEAD, 2, "a lead of 8");
     row(0, 9, 16, 8, 0, 0, 1, "process 0 at round 9");
     row(1, 1, 24, 0, 0, 0, 2, "process 1 has not sent");
 
@@ -213,7 +228,7 @@ int main(void)
     for (unsigned r = 1; r < 65535; r++)
         broadcast(0), step(0);
     broadcast(0), step(0), end();
-    call(TONGSPARKLE_ROOM, 7, 1, "a step from the last round");
+    call(TONGSPARKLE_ROOM, TONGSPARKLE_LAST_ROUND, 1, "a step from the last round");
     row(0, 65535, 65535, 65534, 0, 0, 1, "alone at round 65,535");
 
     /* 8: sixteen processes; 272 events a round */
@@ -225,7 +240,7 @@ int main(void)
             step(p);
     }
     end();
-    call(TONGSPARKLE_ROOM, 8, 16, "more than a million events");
+    call(TONGSPARKLE_ROOM, TONGSPARKLE_TOO_MANY_EVENTS, 16, "more than a million events");
     for (unsigned p = 0; p < 16; p++) {
         uint32_t sum = field(p, TONGSPARKLE_SENDING) + field(p, TONGSPARKLE_COLLECTING) + field(p, TONGSPARKLE_PENDING) + field(p, TONGSPARKLE_IDLE);
         check(sum == field(0, TONGSPARKLE_SENDING) + field(0, TONGSPARKLE_COLLECTING) + field(0, TONGSPARKLE_PENDING) + field(0, TONGSPARKLE_IDLE),

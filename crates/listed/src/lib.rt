@@ -40,7 +40,8 @@ fn converted(e: Event) -> rounds::Event
 
 // One event of the list, and its number.
 fn happen(run: &mut [u32; RUN], e: Event) -> u32
-    ensures { λ r. ⌜ (r ≡ numberOf (verdict (controlOf (now (run .entry))) (eventOf e))) × (now (run .exit) ≡ applied (now (run .entry)) (eventOf e)) ⌝ }
+    ensures { λ r. ⌜ (r ≡ numberOf (verdict (controlOf (now (run .entry))) (eventOf e)))
+        × (now (run .exit) ≡ applied (now (run .entry)) (eventOf e)) ⌝ }
 {
     let a = machine::apply(run, converted(e));
     rounds::number(words::verdict(a))
@@ -48,7 +49,8 @@ fn happen(run: &mut [u32; RUN], e: Event) -> u32
 
 // The events of the list in order, up to the first that is refused; its number, and 0 at the list's end.
 fn follow(run: &mut [u32; RUN], events: &[Event]) -> u32
-    ensures { λ r. ⌜ (r ≡ numberOf (replayedVerdict (now (run .entry)) (eventsOf (now (events .entry))))) × (now (run .exit) ≡ replayed (now (run .entry)) (eventsOf (now (events .entry)))) ⌝ }
+    ensures { λ r. ⌜ (r ≡ numberOf (replayedVerdict (now (run .entry)) (eventsOf (now (events .entry)))))
+        × (now (run .exit) ≡ replayed (now (run .entry)) (eventsOf (now (events .entry)))) ⌝ }
 {
     let mut i: usize = 0;
     while i < events.len() {

@@ -1,13 +1,13 @@
 -- The law of cutting: what is read whole is read the same whatever follows.
 -- Assumes nothing.
-use Prim.Native.Nat.{ℕ, _≤_}
+use Prim.Native.Nat.{ℕ, _≤_, _<_}
 use native.Mathlib.Omega.{arith}
 use mathlib.Core.Path.{_≡_, refl}
 use mathlib.Core.Bool.{Bool, true, false, cond}
 use mathlib.Core.List.{List, _++_}
 use borrow.Author.Tests.{le-ltb, ltb-false}
 use lib.Dec.{ltb, eqb}
-use lib.ListN.{length, drop, length-append, List·getD-append}
+use lib.ListN.{length, getD, drop, length-append, List·getD-append}
 use lib.Seq.{take-append-le, drop-append-le}
 use Rattle.records.specs.declared.Place.{Place}
 use Rattle.records.specs.declared.Place.the-variants.{First, Later, Behind}
@@ -59,8 +59,10 @@ headed-more : (first : Bool) (w more : List ℕ) → Stays (headed first w) (hea
 unfolding headed
 headed-more first w more =
     stays-needs 3 w more
-    (λ l. rw (List·getD-append w more 0 0 (omega arith), List·getD-append w more 0 1 (omega arith), List·getD-append w more 0 2 (omega arith), drop-append-le 3 w more l)
-    (judged-more first _ _ (drop 3 w) more))
+    (λ l. rw (byte 0 (omega arith), byte 1 (omega arith), byte 2 (omega arith), drop-append-le 3 w more l) (judged-more first _ _ (drop 3 w) more))
+  where
+    byte : (i : ℕ) → i < length w → getD (w ++ more) i 0 ≡ getD w i 0
+    byte i h = List·getD-append w more 0 i h
 
 -- ---- what is read whole is read the same whatever follows
 pub parse-more : (pl : Place) (w more : List ℕ) → (parse pl w ≡ Cut → ⊥) → parse pl (w ++ more) ≡ parse pl w

@@ -66,7 +66,8 @@ fn put_rows(report: &mut [u8], run: &[u32; RUN])
 // Replays the trace, writes the report of what was accepted, and gives the number of document 01.
 #[no_mangle]
 pub extern "C" fn tongsparkle_replay(trace: &[u8], report: &mut [u8]) -> u32
-    ensures { λ r. ⌜ (r ≡ Report.numberGiven (now (trace .entry)) (now (report .entry))) × (now (report .exit) ≡ Report.reportLeft (now (trace .entry)) (now (report .entry))) ⌝ }
+    ensures { λ r. ⌜ (r ≡ Report.numberGiven (now (trace .entry)) (now (report .entry)))
+        × (now (report .exit) ≡ Report.reportLeft (now (trace .entry)) (now (report .entry))) ⌝ }
 {
     if report.len() < ROOM {
         return NO_ROOM;

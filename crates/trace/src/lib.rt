@@ -92,7 +92,8 @@ fn fill(values: &mut [u32], bytes: &[u8], n: usize)
 
 // A run of n processes begins, with the values that stand in the bytes.
 fn begin(run: &mut [u32; RUN], n: u8, bytes: &[u8]) -> Verdict
-    ensures { λ r. ⌜ (r ≡ openVerdict n (length (Script.words n (now (bytes .entry))))) × (now (run .exit) ≡ begins (now (run .entry)) n (Script.words n (now (bytes .entry)))) ⌝ }
+    ensures { λ r. ⌜ (r ≡ openVerdict n (length (Script.words n (now (bytes .entry)))))
+        × (now (run .exit) ≡ begins (now (run .entry)) n (Script.words n (now (bytes .entry)))) ⌝ }
 {
     let mut values = [0u32; 255];
     let k = n as usize;
@@ -103,7 +104,8 @@ fn begin(run: &mut [u32; RUN], n: u8, bytes: &[u8]) -> Verdict
 // An opening at the head of the bytes.
 fn opened(run: &mut [u32; RUN], n: u8, bytes: &[u8]) -> Turn
     requires { ⌜ 4 + 4 * n ≤ length (now bytes) ⌝ }
-    ensures { λ r. ⌜ (r ≡ Turns.onOpening n (Script.valuesOf n (now (bytes .entry)))) × (now (run .exit) ≡ begins (now (run .entry)) n (Script.valuesOf n (now (bytes .entry)))) ⌝ }
+    ensures { λ r. ⌜ (r ≡ Turns.onOpening n (Script.valuesOf n (now (bytes .entry))))
+        × (now (run .exit) ≡ begins (now (run .entry)) n (Script.valuesOf n (now (bytes .entry)))) ⌝ }
 {
     let used = records::extent(Record::Opening(n));
     let v = begin(run, n, &bytes[4..used]);
@@ -160,7 +162,8 @@ fn happened(run: &mut [u32; RUN], e: Event) -> Turn
 
 // One record: what stands at the head of the bytes is read, and handed to the machine.
 pub fn one_record(run: &mut [u32; RUN], bytes: &[u8], place: Place) -> Turn
-    ensures { λ r. ⌜ (r ≡ Turns.turn place (now (run .entry)) (now (bytes .entry))) × (now (run .exit) ≡ Turns.turned place (now (run .entry)) (now (bytes .entry))) ⌝ }
+    ensures { λ r. ⌜ (r ≡ Turns.turn place (now (run .entry)) (now (bytes .entry)))
+        × (now (run .exit) ≡ Turns.turned place (now (run .entry)) (now (bytes .entry))) ⌝ }
 {
     let found = records::read(bytes, place);
     match found {

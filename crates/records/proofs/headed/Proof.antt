@@ -50,7 +50,11 @@ judge-requires c κs = search needs
 
 returns-2 : tie.Need-returns-2
 unfolding headed
-returns-2 c = rw (le-ltb _ _ (c .before .before .before .before .before .before .before .before .if1 .left), ← c .before .before .before .before .before .before .wide .ensures .0, ← c .before .before .before .before .wide2 .ensures .0, ← c .before .before .tag-of .ensures) (rw rest at (c .judge .ensures))
+returns-2 c =
+    let c4 = c .before .before .before .before in
+    let c6 = c4 .before .before in
+    rw (le-ltb _ _ (c6 .before .before .if1 .left), ← c6 .wide .ensures .0, ← c4 .wide2 .ensures .0, ← c .before .before .tag-of .ensures)
+    (rw rest at (c .judge .ensures))
 
 pub headed-spec : {M : Type 1} → statement M
 headed-spec =

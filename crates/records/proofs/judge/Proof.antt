@@ -24,14 +24,18 @@ opening-requires c κs = search needs
 
 returns-3 : tie.Need-returns-3
 unfolding judged
-returns-3 c = rw (← c .before .before .before .before .before .unknown .ensures, c .before .before .before .before .if1 .left, ← c .before .before .before .misplaced .ensures, c .before .before .if2 .left, c .before .if3 .taken) (c .opening .ensures)
+returns-3 c =
+    let c3 = c .before .before .before in
+    rw (← c3 .before .before .unknown .ensures, c3 .before .if1 .left, ← c3 .misplaced .ensures, c .before .before .if2 .left, c .before .if3 .taken) (c .opening .ensures)
 
 plain-requires : tie.Need-plain-requires
 plain-requires c κs = search needs
 
 returns-4 : tie.Need-returns-4
 unfolding judged
-returns-4 c = rw (← c .before .before .before .before .before .unknown .ensures, c .before .before .before .before .if1 .left, ← c .before .before .before .misplaced .ensures, c .before .before .if2 .left, c .before .if3 .left) (c .plain .ensures)
+returns-4 c =
+    let c3 = c .before .before .before in
+    rw (← c3 .before .before .unknown .ensures, c3 .before .if1 .left, ← c3 .misplaced .ensures, c .before .before .if2 .left, c .before .if3 .left) (c .plain .ensures)
 
 pub judge-spec : {M : Type 1} → statement M
 judge-spec =

@@ -29,15 +29,21 @@ add-if3 c = search needs
 
 returns-3 : tie.Need-returns-3
 unfolding opening
-returns-3 c = rw (ne-eqb _ _ (c .before .before .before .before .if1 .left), le-ltb _ _ (c .before .before .before .if2 .left), ← c .before .wide .ensures .0, ne-eqb _ _ (c .if3 .taken))
+returns-3 c =
+    let c3 = c .before .before .before in
+    rw (ne-eqb _ _ (c3 .before .if1 .left), le-ltb _ _ (c3 .if2 .left), ← c .before .wide .ensures .0, ne-eqb _ _ (c .if3 .taken))
 
 returns-4 : tie.Need-returns-4
 unfolding opening
-returns-4 c = rw (ne-eqb _ _ (c .before .before .before .before .before .if1 .left), le-ltb _ _ (c .before .before .before .before .if2 .left), ← c .before .before .wide .ensures .0, eq-eqb _ _ (c .before .if3 .left), lt-ltb _ _ (c .if4 .taken))
+returns-4 c =
+    let c4 = c .before .before .before .before in
+    rw (ne-eqb _ _ (c4 .before .if1 .left), le-ltb _ _ (c4 .if2 .left), ← c .before .before .wide .ensures .0, eq-eqb _ _ (c .before .if3 .left), lt-ltb _ _ (c .if4 .taken))
 
 returns-5 : tie.Need-returns-5
 unfolding opening
-returns-5 c = rw (ne-eqb _ _ (c .before .before .before .before .before .if1 .left), le-ltb _ _ (c .before .before .before .before .if2 .left), ← c .before .before .wide .ensures .0, eq-eqb _ _ (c .before .if3 .left), le-ltb _ _ (c .if4 .left))
+returns-5 c =
+    let c4 = c .before .before .before .before in
+    rw (ne-eqb _ _ (c4 .before .if1 .left), le-ltb _ _ (c4 .if2 .left), ← c .before .before .wide .ensures .0, eq-eqb _ _ (c .before .if3 .left), le-ltb _ _ (c .if4 .left))
 
 pub opening-spec : {M : Type 1} → statement M
 opening-spec =

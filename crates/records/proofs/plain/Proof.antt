@@ -27,7 +27,9 @@ made-requires c κs = search needs
 
 returns-3 : tie.Need-returns-3
 unfolding plain
-returns-3 c = rw (← c .before .before .before .before .size .ensures, eq-eqb _ _ (c .before .before .before .if1 .left), le-ltb _ _ (c .before .before .if2 .left)) (c .made .ensures)
+returns-3 c =
+    let c3 = c .before .before .before in
+    rw (← c3 .before .size .ensures, eq-eqb _ _ (c3 .if1 .left), le-ltb _ _ (c .before .before .if2 .left)) (c .made .ensures)
 
 pub plain-spec : {M : Type 1} → statement M
 plain-spec =

@@ -22,9 +22,12 @@ same-length c = search needs
 
 returns-2 : tie.Need-returns-2
 returns-2 c =
-    let a = c .before .before .before .before .before .before .before .before .before .before .before .args in
-    let replayed = c .before .before .before .before .before .before .replay .ensures in
-    room-enough (a .trace .now) (a .report .now) (c .before .before .before .before .before .before .before .before .if1 .left) (replayed .1) (replayed .0 .0) (c .number .ensures) (c .before .before .before .put-rows .ensures)
+    let c6 = c .before .before .before .before .before .before in
+    let c8 = c6 .before .before in
+    let a = c8 .before .before .before .args in
+    let replayed = c6 .replay .ensures in
+    room-enough (a .trace .now) (a .report .now) (c8 .if1 .left) (replayed .1) (replayed .0 .0) (c .number .ensures)
+    (c .before .before .before .put-rows .ensures)
 
 pub tongsparkle-replay-spec : {M : Type 1} → statement M
 tongsparkle-replay-spec =
