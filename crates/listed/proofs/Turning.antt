@@ -11,12 +11,12 @@ use borrow.Author.Tests.{eq-eqb, ne-eqb}
 use Rattle.rounds.specs.declared.Verdict.{Verdict}
 use Rattle.rounds.specs.declared.Event as rounds
 use Rattle.rounds.specs.Verdicts.{numberOf, accepted, openVerdict, verdict}
-use Rattle.rounds.specs.Events.{ifAccepted}
 use Rattle.rounds.specs.Runs.{nightVerdict, night}
 use Rattle.words.specs.Layout.{Mem}
 use Rattle.words.specs.Spelled.{controlOf}
 use Rattle.words.specs.Calls.{blank, begins, applied, replayed, replayedVerdict, nightWords}
 use Rattle.words.specs.Shows.{Shows}
+use Rattle.words.proofs.Meaning.{refused-unchanged}
 use Rattle.words.proofs.Replaying as Replaying
 use Rattle.listed.specs.declared.Event.{Event}
 use Rattle.listed.specs.Listed.{eventOf, eventsOf}
@@ -72,15 +72,11 @@ module _ (m₀ : Mem) (es : List Event) (i : ℕ) (d : Event) (m : Mem) (left : 
     unfolding eventsOf
     taken = rw (drop-cons es i d, add-one)
 
-    unchanged : accepted (verdict (controlOf m) e) ≡ false → applied m e ≡ m
-    unfolding applied ifAccepted
-    unchanged a = rw a
-
     pub stops : (r ≡ 0 → ⊥) → Followed m₀ es r m′
     stops refused =
         let a = halts (verdict (controlOf m) e) (λ z. refused (did .0 ∙ z)) in
         let s = Replaying.stops m e rest a in
-        (did .0 ∙ ap numberOf (sym (s .0)) ∙ remain _ taken .0, did .1 ∙ unchanged a ∙ sym (s .1) ∙ remain _ taken .1)
+        (did .0 ∙ ap numberOf (sym (s .0)) ∙ remain _ taken .0, did .1 ∙ refused-unchanged m e a ∙ sym (s .1) ∙ remain _ taken .1)
 
     pub goes-on : r ≡ 0 → Remains m₀ es (i + 1) m′
     goes-on z =

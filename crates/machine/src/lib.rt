@@ -13,6 +13,7 @@ mod stepping;
 
 pub use broadcasting::broadcast;
 pub use cells::RUN;
+pub use limits::MOST_PROCESSES;
 pub use opening::begin;
 pub use opening::clear;
 pub use reading::events;

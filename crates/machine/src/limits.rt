@@ -1,6 +1,6 @@
 // The limits of document 01, as the code knows them: each stands here once.
 
-pub(crate) const MOST_PROCESSES: u32 = 16;
+pub const MOST_PROCESSES: u32 = 16;
 
 pub(crate) const WINDOW: u32 = 8;
 

@@ -12,8 +12,8 @@ ghost use Rattle.tongsparkle.specs.Report as Report;
 // What stands of a process: six numbers of four bytes.
 const ROW: usize = 24;
 
-// The room that a report needs, whatever the trace: that of sixteen processes.
-const ROOM: usize = 16 * ROW;
+// The room that a report needs, whatever the trace: that of as many processes as there can be.
+const ROOM: usize = machine::MOST_PROCESSES as usize * ROW;
 
 // The number for a report with less room.
 const NO_ROOM: u32 = 14;

@@ -2,20 +2,25 @@
 -- the night of its opening and its events; and opening values change nothing but values. Assumes nothing.
 use Prim.Native.Nat.{ℕ}
 use native.Mathlib.Omega.{arith}
-use mathlib.Core.Path.{_≡_, refl}
+use mathlib.Core.Path.{_≡_, refl, _∙_}
 use mathlib.Core.Bool.{Bool, true, false, cond}
-use mathlib.Core.List.{List}
+use mathlib.Core.List.{List, []}
 use borrow.Author.Tests.{eq-eqb}
 use Rattle.sets.proofs.Determined.{determined}
+use Rattle.rounds.specs.declared.Event.{Event}
 use Rattle.rounds.specs.declared.Verdict.{Verdict}
 use Rattle.rounds.specs.declared.Verdict.the-variants.{Accepted}
-use Rattle.rounds.specs.Verdicts.{accepted}
+use Rattle.rounds.specs.Run.{Control}
+use Rattle.rounds.specs.Verdicts.{accepted, verdict}
 use Rattle.rounds.specs.Events.{ifAccepted}
-use Rattle.rounds.specs.Runs.{nightVerdict, night, nightReports}
+use Rattle.rounds.specs.Runs.{told, nightVerdict, night, nightReports}
 use Rattle.rounds.proofs.Answers.{is-accepted}
+use Rattle.words.specs.declared.Answer.{Answer}
+use Rattle.words.specs.declared.Answer.the-variants as answer
 use Rattle.words.specs.Layout.{Mem}
-use Rattle.words.specs.Calls.{nightWords}
-use Rattle.words.specs.Shows.{Shows}
+use Rattle.words.specs.Calls.{answer as answerOf, nightWords}
+use Rattle.words.specs.Shows.{Shows, reported}
+use Rattle.words.proofs.Answering.{answer-report}
 use Rattle.words.proofs.Meaning.{blank-shows}
 use Rattle.words.proofs.Replaying.{night-shows}
 use Rattle.records.specs.declared.Place.{Place}
@@ -34,7 +39,7 @@ use Rattle.trace.specs.declared.Turn.{Turn}
 use Rattle.trace.specs.Outcome.{endingNumber, atEnd, closing, closes, endedBy, nobody, outcomeOf, outcome}
 use Rattle.trace.specs.Claims.{Revalued}
 use Rattle.trace.proofs.Values.{Blind, values-alone}
-use Rattle.trace.specs.Turns.{turn, turned, leftBy, traceWords}
+use Rattle.trace.specs.Turns.{reportsOf, tells, turn, turned, leftBy, traceWords}
 
 -- ---- the words that a trace leaves show the run that it reaches
 left-shows : (w : List ℕ) (s : Script) (r : Record) → Shows (leftBy w s r) (outcomeOf w s r .config)
@@ -52,6 +57,15 @@ trace-shows w = left-shows w (script First w) (parse First w)
 pub replay-meant : (w : List ℕ) {x : Ending} {m : Mem} → (x ≡ outcome w .ending) × (m ≡ traceWords w)
     → ((x ≡ outcome w .ending) × (m ≡ traceWords w)) × Shows m (outcome w .config)
 replay-meant w p = (p, rw (p .1) (trace-shows w))
+
+-- ---- what an accepted event tells is the heard-of set that the abstract machine reports
+told-same : (e : Event) (a : Answer) → reportsOf (tells e a) ≡ reported e a
+unfolding reportsOf tells reported
+told-same e (answer.Judged v) = refl
+told-same e (answer.Finished r h) = refl
+
+pub tells-reports : (c : Control) (e : Event) → reportsOf (tells e (answerOf c e)) ≡ ifAccepted (verdict c e) (told c e) []
+tells-reports c e = told-same e (answerOf c e) ∙ answer-report c e
 
 -- ---- two traces that differ in the values of their opening alone: Demand 3 for bytes
 pub opening-values-alone : (w u : List ℕ) (d : Revalued w u) → Blind w u (d .size)

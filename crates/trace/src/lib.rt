@@ -41,6 +41,9 @@ pub enum Turn {
     Ends(Ending),
 }
 
+// The values of an opening record, at most: its N is one byte.
+const MOST_VALUES: usize = 255;
+
 // The number that document 01 gives an ending.
 pub fn number(e: Ending) -> u32
     ensures { λ r. ⌜ r ≡ Outcome.endingNumber e ⌝ }
@@ -95,7 +98,7 @@ fn begin(run: &mut [u32; RUN], n: u8, bytes: &[u8]) -> Verdict
     ensures { λ r. ⌜ (r ≡ openVerdict n (length (Script.words n (now (bytes .entry)))))
         × (now (run .exit) ≡ begins (now (run .entry)) n (Script.words n (now (bytes .entry)))) ⌝ }
 {
-    let mut values = [0u32; 255];
+    let mut values = [0u32; MOST_VALUES];
     let k = n as usize;
     fill(&mut values, bytes, k);
     machine::begin(run, n as u32, &values[..k])

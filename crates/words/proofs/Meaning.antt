@@ -13,7 +13,6 @@ use Rattle.rounds.specs.declared.Verdict.{Verdict}
 use Rattle.rounds.specs.declared.Verdict.the-variants.{Accepted}
 use Rattle.rounds.specs.Limits.{mostProcesses}
 use Rattle.rounds.specs.Run.{Control, Content, Config, openControl, opening, noRun}
-use Rattle.rounds.specs.Stages.{one}
 use Rattle.rounds.specs.Verdicts.{accepted, openVerdict, verdict}
 use Rattle.rounds.specs.Events.{sendsControl, sendsContent, nextControl, nextContent, ifAccepted, apply}
 use Rattle.rounds.specs.Runs.{Report, told}

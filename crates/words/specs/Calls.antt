@@ -17,7 +17,7 @@ use Rattle.rounds.specs.declared.Verdict.{Verdict}
 use Rattle.rounds.specs.declared.Verdict.the-variants.{Accepted}
 use Rattle.rounds.specs.Run.{Control}
 use Rattle.rounds.specs.Stages.{stage, index}
-use Rattle.rounds.specs.Verdicts.{accepted, openVerdict, ahead, verdict}
+use Rattle.rounds.specs.Verdicts.{openVerdict, ahead, verdict}
 use Rattle.rounds.specs.Events.{timely, gathered, messages, ifAccepted}
 use Rattle.words.specs.declared.Answer.{Answer}
 use Rattle.words.specs.declared.Answer.the-variants.{Judged, Finished}

@@ -5,6 +5,7 @@ use native.Mathlib.Omega.{arith}
 use mathlib.Core.Path.{_≡_, refl, ap, _∙_}
 use lib.ListN.{length}
 use lib.Seq.{sets, length-sets}
+use Rattle.rounds.specs.Limits.{mostProcesses}
 use Rattle.words.specs.Spelled.{people}
 use Rattle.words.specs.Calls.{standingOf}
 use Rattle.words.proofs.Reading.{people-most}
@@ -15,7 +16,7 @@ use Rattle.tongsparkle.proofs.put_rows.Statement.{statement}
 use Rattle.tongsparkle.proofs.put_rows.Tie as tie
 
 abbrev Inv-loop : tie.InvT-loop
-Inv-loop report₀ run n p₀ report p = (p ≤ n) × (n ≤ 16) × (report ≡ sets report₀ 0 (rowsBelow p (standingOf run)))
+Inv-loop report₀ run n p₀ report p = (p ≤ n) × (n ≤ mostProcesses) × (report ≡ sets report₀ 0 (rowsBelow p (standingOf run)))
 
 abbrev μ-loop : tie.MeasureT-loop
 μ-loop report₀ run n p₀ report p = n - p
