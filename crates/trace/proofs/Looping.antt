@@ -8,9 +8,11 @@ use mathlib.Core.List.{List}
 use lib.ListN.{length, take, drop, length-drop}
 use lib.Seq.{drop-drop}
 use Rattle.rounds.specs.declared.Verdict.{Verdict}
+use Rattle.rounds.specs.Run.{Control}
 use Rattle.rounds.specs.Verdicts.{accepted}
 use Rattle.rounds.specs.Events.{ifAccepted}
 use Rattle.words.specs.Layout.{Mem}
+use Rattle.words.specs.Spelled.{controlOf}
 use Rattle.words.specs.Calls.{blank}
 use Rattle.records.specs.declared.Place.{Place}
 use Rattle.records.specs.declared.Place.the-variants.{First}
@@ -42,33 +44,33 @@ if-within w v k next t x some l = go (accepted v)
     go true = (some, l)
     go false = tt
 
-record-within : (m : Mem) (w : List ℕ) (r : Record) → extent r ≤ length w → Within w (turnOn m w r)
+record-within : (c : Control) (w : List ℕ) (r : Record) → extent r ≤ length w → Within w (turnOn c w r)
 unfolding turnOn onOpening onAnswer extent Within
-record-within m w (Opening n) l = if-within w _ _ _ _ _ (omega arith) l
-record-within m w (Happens e) l = if-within w _ _ _ _ _ (event-some e) l
-record-within m w End l = (omega arith, l)
-record-within m w (Wrong f) l = tt
-record-within m w Cut l = tt
+record-within c w (Opening n) l = if-within w _ _ _ _ _ (omega arith) l
+record-within c w (Happens e) l = if-within w _ _ _ _ _ (event-some e) l
+record-within c w End l = (omega arith, l)
+record-within c w (Wrong f) l = tt
+record-within c w Cut l = tt
 
-goes-within : {k : ℕ} {next : Place} {t : Told} (pl : Place) (m : Mem) (w : List ℕ) → turn pl m w ≡ Goes k next t → (0 < k) × (k ≤ length w)
+goes-within : {k : ℕ} {next : Place} {t : Told} (pl : Place) (c : Control) (w : List ℕ) → turn pl c w ≡ Goes k next t → (0 < k) × (k ≤ length w)
 unfolding turn Within
-goes-within pl m w e = subst (Within w) e (record-within m w (parse pl w) (extent-within pl w))
+goes-within pl c w e = subst (Within w) e (record-within c w (parse pl w) (extent-within pl w))
 
 -- ---- the turn at a place of the trace: its bytes are those from the place on, x is its answer, and m′ the memory that it leaves
 module _ (pl : Place) (m m′ : Mem) (w : List ℕ) (at : ℕ) (x : Turn) where
   pub record Taken : Type 0 where
     pub within : at ≤ length w
     pub ahead-of : ahead pl m (drop at w) ≡ ahead First blank w
-    pub answer : x ≡ turn pl m (drop at w)
+    pub answer : x ≡ turn pl (controlOf m) (drop at w)
     pub words : m′ ≡ turned pl m (drop at w)
 
   pub taken : (at ≤ length w) × (ahead pl m (drop at w) ≡ ahead First blank w)
-      → (x ≡ turn pl m (take (length w - at) (drop at w))) × (m′ ≡ turned pl m (take (length w - at) (drop at w))) → Taken
+      → (x ≡ turn pl (controlOf m) (take (length w - at) (drop at w))) × (m′ ≡ turned pl m (take (length w - at) (drop at w))) → Taken
   taken l e = record { within = l .0; ahead-of = l .1; answer = rw rest at (e .0); words = rw rest at (e .1) }
 
   pub goes-far : {k : ℕ} {next : Place} {t : Told} → Taken → x ≡ Goes k next t → (0 < k) × (at + k ≤ length w)
   goes-far c e =
-      let far = goes-within pl m (drop at w) (sym (c .answer) ∙ e) in
+      let far = goes-within pl (controlOf m) (drop at w) (sym (c .answer) ∙ e) in
       (far .0, omega (arith, far .1, length-drop at w, c .within))
 
   pub goes-on : {k : ℕ} {next : Place} {t : Told} → Taken → x ≡ Goes k next t → ahead next m′ (drop (at + k) w) ≡ ahead First blank w

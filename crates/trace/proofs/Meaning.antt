@@ -6,23 +6,25 @@ use mathlib.Core.Path.{_≡_, refl, _∙_}
 use mathlib.Core.Bool.{Bool, true, false, cond}
 use mathlib.Core.List.{List, []}
 use borrow.Author.Tests.{eq-eqb}
+use lib.ListN.{length}
 use Rattle.sets.proofs.Determined.{determined}
 use Rattle.rounds.specs.declared.Event.{Event}
 use Rattle.rounds.specs.declared.Verdict.{Verdict}
 use Rattle.rounds.specs.declared.Verdict.the-variants.{Accepted}
-use Rattle.rounds.specs.Run.{Control}
-use Rattle.rounds.specs.Verdicts.{accepted, verdict}
+use Rattle.rounds.specs.Run.{Control, Config, opening}
+use Rattle.rounds.specs.Verdicts.{accepted, openVerdict, verdict}
 use Rattle.rounds.specs.Events.{ifAccepted}
-use Rattle.rounds.specs.Runs.{told, nightVerdict, night, nightReports}
+use Rattle.rounds.specs.Runs.{told, valueAt, nightVerdict, night, nightReports}
 use Rattle.rounds.proofs.Answers.{is-accepted}
 use Rattle.words.specs.declared.Answer.{Answer}
 use Rattle.words.specs.declared.Answer.the-variants as answer
 use Rattle.words.specs.Layout.{Mem}
-use Rattle.words.specs.Calls.{answer as answerOf, nightWords}
+use Rattle.words.specs.Spelled.{controlOf}
+use Rattle.words.specs.Calls.{opened, begins, answer as answerOf, nightWords}
 use Rattle.words.specs.Shows.{Shows, reported}
-use Rattle.words.proofs.Answering.{answer-report}
-use Rattle.words.proofs.Meaning.{blank-shows}
-use Rattle.words.proofs.Replaying.{night-shows}
+use Rattle.words.proofs.Answering.{answer-shown, answer-report}
+use Rattle.words.proofs.Meaning.{blank-shows, shows-next}
+use Rattle.words.proofs.Replaying.{opens-shows, night-shows}
 use Rattle.records.specs.declared.Place.{Place}
 use Rattle.records.specs.declared.Place.the-variants.{First}
 use Rattle.records.specs.declared.Fault.{Fault}
@@ -39,7 +41,7 @@ use Rattle.trace.specs.declared.Turn.{Turn}
 use Rattle.trace.specs.Outcome.{endingNumber, atEnd, closing, closes, endedBy, nobody, outcomeOf, outcome}
 use Rattle.trace.specs.Claims.{Revalued}
 use Rattle.trace.proofs.Values.{Blind, values-alone}
-use Rattle.trace.specs.Turns.{reportsOf, tells, turn, turned, leftBy, traceWords}
+use Rattle.trace.specs.Turns.{reportsOf, tells, turnOn, turn, runOn, next, wordsOn, turned, leftBy, traceWords}
 
 -- ---- the words that a trace leaves show the run that it reaches
 left-shows : (w : List ℕ) (s : Script) (r : Record) → Shows (leftBy w s r) (outcomeOf w s r .config)
@@ -57,6 +59,32 @@ trace-shows w = left-shows w (script First w) (parse First w)
 pub replay-meant : (w : List ℕ) {x : Ending} {m : Mem} → (x ≡ outcome w .ending) × (m ≡ traceWords w)
     → ((x ≡ outcome w .ending) × (m ≡ traceWords w)) × Shows m (outcome w .config)
 replay-meant w p = (p, rw (p .1) (trace-shows w))
+
+-- ---- one record: where the memory shows a configuration, what comes of it is the abstract machine's, and the memory then shows the next one
+module _ (m : Mem) (c : Config) (w : List ℕ) (k : Shows m c) where
+  opened-shows : (n : ℕ) → Shows (begins m n (valuesOf n w)) (runOn c w (Opening n))
+  unfolding runOn begins ifAccepted
+  opened-shows n = go (accepted (openVerdict n (length (valuesOf n w)))) refl
+    where
+      go : (b : Bool) → accepted (openVerdict n (length (valuesOf n w))) ≡ b
+          → Shows (cond b (opened n (valuesOf n w)) m) (cond b (opening n (valueAt (valuesOf n w))) c)
+      go true a = opens-shows n (valuesOf n w) a
+      go false a = k
+
+  record-means : (r : Record) → (turnOn (controlOf m) w r ≡ turnOn (c .control) w r) × Shows (wordsOn m w r) (runOn c w r)
+  unfolding turnOn wordsOn runOn
+  record-means (Opening n) = (refl, opened-shows n)
+  record-means (Happens e) = (rw (answer-shown m (c .control) (c .content) (k .few) (k .shown) e), shows-next m c e k)
+  record-means End = (refl, k)
+  record-means (Wrong f) = (refl, k)
+  record-means Cut = (refl, k)
+
+pub one-record-meant : (pl : Place) (m : Mem) (w : List ℕ) {t : Turn} {b : Mem} → (t ≡ turn pl (controlOf m) w) × (b ≡ turned pl m w)
+    → ((t ≡ turn pl (controlOf m) w) × (b ≡ turned pl m w))
+    × ((c : Config) → Shows m c → (t ≡ turn pl (c .control) w) × Shows b (next pl c w))
+unfolding turn turned next
+one-record-meant pl m w p =
+    (p, λ c k. let means = record-means m c w k (parse pl w) in (p .0 ∙ means .0, rw (p .1) (means .1)))
 
 -- ---- what an accepted event tells is the heard-of set that the abstract machine reports
 told-same : (e : Event) (a : Answer) → reportsOf (tells e a) ≡ reported e a
@@ -123,6 +151,6 @@ pub replay-determined : (w : List ℕ) {x y : Ending} {m b : Mem} → (x ≡ out
     → (x ≡ y) × (m ≡ b)
 replay-determined w p q = (determined (p .0) (q .0), determined (p .1) (q .1))
 
-pub one-record-determined : (pl : Place) (m : Mem) (w : List ℕ) {t u : Turn} {x y : Mem} → (t ≡ turn pl m w) × (x ≡ turned pl m w)
-    → (u ≡ turn pl m w) × (y ≡ turned pl m w) → (t ≡ u) × (x ≡ y)
+pub one-record-determined : (pl : Place) (m : Mem) (w : List ℕ) {t u : Turn} {x y : Mem} → (t ≡ turn pl (controlOf m) w) × (x ≡ turned pl m w)
+    → (u ≡ turn pl (controlOf m) w) × (y ≡ turned pl m w) → (t ≡ u) × (x ≡ y)
 one-record-determined pl m w p q = (determined (p .0) (q .0), determined (p .1) (q .1))

@@ -116,7 +116,7 @@ module _ (m : Mem) (w : List ℕ) where
   cut-ahead Later e = stopped-ahead Later (script-cut Later w e) ∙ rw e
   cut-ahead Behind e = stopped-ahead Behind (script-cut Behind w e) ∙ rw e
 
-  record-ahead : (pl : Place) (r : Record) → parse pl w ≡ r → Placed pl r → ahead pl m w ≡ onTurn pl (wordsOn m w r) w (turnOn m w r)
+  record-ahead : (pl : Place) (r : Record) → parse pl w ≡ r → Placed pl r → ahead pl m w ≡ onTurn pl (wordsOn m w r) w (turnOn (controlOf m) w r)
   unfolding Placed turnOn wordsOn onTurn
   record-ahead First (Opening n) e h = opened-ahead n e
   record-ahead First (Happens v) e h = absurd h
@@ -135,20 +135,20 @@ module _ (m : Mem) (w : List ℕ) where
   record-ahead Behind Cut e h = cut-ahead Behind e
 
 -- whatever the bytes, what is ahead before a turn is ahead after it
-pub turn-ahead : (pl : Place) (m : Mem) (w : List ℕ) → ahead pl m w ≡ onTurn pl (turned pl m w) w (turn pl m w)
+pub turn-ahead : (pl : Place) (m : Mem) (w : List ℕ) → ahead pl m w ≡ onTurn pl (turned pl m w) w (turn pl (controlOf m) w)
 unfolding turn turned
 turn-ahead pl m w = record-ahead m w pl (parse pl w) refl (placed pl w)
 
-pub more-ahead : (pl : Place) (m : Mem) (w : List ℕ) → turn pl m w ≡ More → ahead pl m w ≡ ended (atEnd pl) (turned pl m w)
+pub more-ahead : (pl : Place) (m : Mem) (w : List ℕ) → turn pl (controlOf m) w ≡ More → ahead pl m w ≡ ended (atEnd pl) (turned pl m w)
 unfolding onTurn
 more-ahead pl m w e = turn-ahead pl m w ∙ rw e
 
-pub goes-ahead : {k : ℕ} {next : Place} {t : Told} (pl : Place) (m : Mem) (w : List ℕ) → turn pl m w ≡ Goes k next t
+pub goes-ahead : {k : ℕ} {next : Place} {t : Told} (pl : Place) (m : Mem) (w : List ℕ) → turn pl (controlOf m) w ≡ Goes k next t
     → ahead pl m w ≡ ahead next (turned pl m w) (drop k w)
 unfolding onTurn
 goes-ahead pl m w e = turn-ahead pl m w ∙ rw e
 
-pub ends-ahead : {x : Ending} (pl : Place) (m : Mem) (w : List ℕ) → turn pl m w ≡ Ends x → ahead pl m w ≡ ended x (turned pl m w)
+pub ends-ahead : {x : Ending} (pl : Place) (m : Mem) (w : List ℕ) → turn pl (controlOf m) w ≡ Ends x → ahead pl m w ≡ ended x (turned pl m w)
 unfolding onTurn
 ends-ahead pl m w e = turn-ahead pl m w ∙ rw e
 

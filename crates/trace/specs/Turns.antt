@@ -1,16 +1,16 @@
--- What one record at the head of the bytes does to the words of a memory, and what comes of it; and the words that a whole trace leaves.
+-- What comes of one record at the head of the bytes, on the abstract machine and on the words of a memory; and the words that a whole trace leaves.
 -- Assumes nothing.
 use Prim.Native.Nat.{ℕ}
 use mathlib.Core.List.{List, [], _∷_}
 use lib.ListN.{length}
 use Rattle.rounds.specs.declared.Event.{Event}
+use Rattle.rounds.specs.Run.{Control, Config, opening}
 use Rattle.rounds.specs.Verdicts.{openVerdict}
-use Rattle.rounds.specs.Events.{ifAccepted}
-use Rattle.rounds.specs.Runs.{Report}
+use Rattle.rounds.specs.Events.{ifAccepted, apply}
+use Rattle.rounds.specs.Runs.{Report, valueAt}
 use Rattle.words.specs.declared.Answer.{Answer}
 use Rattle.words.specs.declared.Answer.the-variants as answer
 use Rattle.words.specs.Layout.{Mem}
-use Rattle.words.specs.Spelled.{controlOf}
 use Rattle.words.specs.Calls.{blank, begins, applied, answer, nightWords}
 use Rattle.words.specs.Shows.{verdictOf, actor}
 use Rattle.records.specs.declared.Place.{Place}
@@ -41,22 +41,34 @@ onAnswer e a = ifAccepted (verdictOf a) (Goes (extent (Happens e)) Later (tells 
 unfoldable pub onOpening : ℕ → List ℕ → Turn
 onOpening n xs = ifAccepted (openVerdict n (length xs)) (Goes (extent (Opening n)) Later Nothing) (Ends (Judged (openVerdict n (length xs))))
 
-unfoldable pub turnOn : Mem → List ℕ → Record → Turn
-turnOn m w (Opening n) = onOpening n (valuesOf n w)
-turnOn m w (Happens e) = onAnswer e (answer (controlOf m) e)
-turnOn m w End = Goes (extent End) Behind Nothing
-turnOn m w (Wrong f) = Ends (Faulty f)
-turnOn m w Cut = More
+unfoldable pub turnOn : Control → List ℕ → Record → Turn
+turnOn c w (Opening n) = onOpening n (valuesOf n w)
+turnOn c w (Happens e) = onAnswer e (answer c e)
+turnOn c w End = Goes (extent End) Behind Nothing
+turnOn c w (Wrong f) = Ends (Faulty f)
+turnOn c w Cut = More
 
+unfoldable pub turn : Place → Control → List ℕ → Turn
+turn pl c w = turnOn c w (parse pl w)
+
+-- ---- the configuration after it
+unfoldable pub runOn : Config → List ℕ → Record → Config
+runOn c w (Opening n) = ifAccepted (openVerdict n (length (valuesOf n w))) (opening n (valueAt (valuesOf n w))) c
+runOn c w (Happens e) = apply c e
+runOn c w End = c
+runOn c w (Wrong f) = c
+runOn c w Cut = c
+
+unfoldable pub next : Place → Config → List ℕ → Config
+next pl c w = runOn c w (parse pl w)
+
+-- ---- the words of a memory after it
 unfoldable pub wordsOn : Mem → List ℕ → Record → Mem
 wordsOn m w (Opening n) = begins m n (valuesOf n w)
 wordsOn m w (Happens e) = applied m e
 wordsOn m w End = m
 wordsOn m w (Wrong f) = m
 wordsOn m w Cut = m
-
-unfoldable pub turn : Place → Mem → List ℕ → Turn
-turn pl m w = turnOn m w (parse pl w)
 
 unfoldable pub turned : Place → Mem → List ℕ → Mem
 turned pl m w = wordsOn m w (parse pl w)

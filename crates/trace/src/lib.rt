@@ -9,6 +9,7 @@ use words::Answer;
 ghost use Prim.Native.Nat.{_+_, _*_, _≤_, _<_};
 ghost use mathlib.Core.Path.{_≡_};
 ghost use lib.ListN.{length, getD, take};
+ghost use Rattle.rounds.specs.Run.{Config};
 ghost use Rattle.rounds.specs.Verdicts.{openVerdict};
 ghost use Rattle.words.specs.Spelled.{controlOf};
 ghost use Rattle.words.specs.Calls.{begins, applied, answer};
@@ -165,8 +166,10 @@ fn happened(run: &mut [u32; RUN], e: Event) -> Turn
 
 // One record: what stands at the head of the bytes is read, and handed to the machine.
 pub fn one_record(run: &mut [u32; RUN], bytes: &[u8], place: Place) -> Turn
-    ensures { λ r. ⌜ (r ≡ Turns.turn place (now (run .entry)) (now (bytes .entry)))
+    ensures exact { λ r. ⌜ (r ≡ Turns.turn place (controlOf (now (run .entry))) (now (bytes .entry)))
         × (now (run .exit) ≡ Turns.turned place (now (run .entry)) (now (bytes .entry))) ⌝ }
+    ensures meaning { λ r. ⌜ ((c : Config) → Shows.Shows (now (run .entry)) c → (r ≡ Turns.turn place (c .control) (now (bytes .entry)))
+        × Shows.Shows (now (run .exit)) (Turns.next place c (now (bytes .entry)))) ⌝ }
 {
     let found = records::read(bytes, place);
     match found {

@@ -54,7 +54,7 @@ given : (n : ℕ) (xs : List ℕ) → Given n xs (valueAt xs)
 unfolding valueAt
 given n xs = record { each = λ p h. refl }
 
-opens-shows : (n : ℕ) (xs : List ℕ) → accepted (openVerdict n (length xs)) ≡ true → Shows (opened n xs) (opening n (valueAt xs))
+pub opens-shows : (n : ℕ) (xs : List ℕ) → accepted (openVerdict n (length xs)) ≡ true → Shows (opened n xs) (opening n (valueAt xs))
 opens-shows n xs a = opening-shows n xs (valueAt xs) (opens-right n (length xs) a .most) (given n xs)
 
 pub night-shows : (n : ℕ) (xs : List ℕ) (es : List Event) → Shows (nightWords n xs es) (night n xs es)

@@ -7,6 +7,7 @@ use Rattle.records.specs.declared.Record.{Record}
 use Rattle.records.specs.Records.{extent}
 use Rattle.records.proofs.Whole.{extent-within}
 use Rattle.trace.specs.Turns.{turnOn, wordsOn, turn, turned}
+use Rattle.trace.proofs.Meaning.{one-record-meant}
 use borrow.Author.Needs.{needs}
 use Rattle.trace.proofs.one_record.Statement.{statement}
 use Rattle.trace.proofs.one_record.Tie as tie
@@ -47,25 +48,26 @@ returns : tie.Need-returns
 unfolding turn turned turnOn wordsOn
 returns c =
     let found = c .before .before .before in
-    rw (← found .before .before .read .ensures, found .found .given .1) (c .opened .ensures)
+    one-record-meant _ _ _ (rw (← found .before .before .read .ensures, found .found .given .1) (c .opened .ensures))
 
 returns-2 : tie.Need-returns-2
 unfolding turn turned turnOn wordsOn
 returns-2 c =
     let found = c .before .before .before in
-    rw (← found .before .before .read .ensures, found .found2 .given .1) (c .happened .ensures)
+    one-record-meant _ _ _ (rw (← found .before .before .read .ensures, found .found2 .given .1) (c .happened .ensures))
 
 returns-3 : tie.Need-returns-3
 unfolding turn turned turnOn wordsOn
-returns-3 c = rw (← c .before .before .before .read .ensures, c .before .enum-told .given .1, c .extent .ensures) (refl, refl)
+returns-3 c =
+    one-record-meant _ _ _ (rw (← c .before .before .before .read .ensures, c .before .enum-told .given .1, c .extent .ensures) (refl, refl))
 
 returns-4 : tie.Need-returns-4
 unfolding turn turned turnOn wordsOn
-returns-4 c = rw (← c .before .before .before .read .ensures, c .before .found3 .given .1) (refl, refl)
+returns-4 c = one-record-meant _ _ _ (rw (← c .before .before .before .read .ensures, c .before .found3 .given .1) (refl, refl))
 
 returns-5 : tie.Need-returns-5
 unfolding turn turned turnOn wordsOn
-returns-5 c = rw (← c .before .before .read .ensures, c .enum-told2 .given .1) (refl, refl)
+returns-5 c = one-record-meant _ _ _ (rw (← c .before .before .read .ensures, c .enum-told2 .given .1) (refl, refl))
 
 pub one-record-spec : {M : Type 1} → statement M
 one-record-spec =

@@ -47,7 +47,7 @@ returns : tie.Need-returns Inv-loop μ-loop
 returns c =
     let turned = c .before .before .before in
     let l = turned .before .before .before .loop in
-    let last = more-last _ _ _ _ _ _ (taken _ _ _ _ _ _ (l .inv) (turned .one-record .ensures)) (c .before .enum-told .given .1) in
+    let last = more-last _ _ _ _ _ _ (taken _ _ _ _ _ _ (l .inv) (turned .one-record .ensures .0)) (c .before .enum-told .given .1) in
     replay-meant _ (c .at-end .ensures ∙ last .0, last .1)
 
 enum-known-t : tie.Need-enum-known-t Inv-loop μ-loop
@@ -57,21 +57,21 @@ add-at : tie.Need-add-at Inv-loop μ-loop
 add-at c =
     let turned = c .before .before .before in
     let l = turned .before .before .before .loop in
-    let far = goes-far _ _ _ _ _ _ (taken _ _ _ _ _ _ (l .inv) (turned .one-record .ensures)) (c .before .t .given .1) in
+    let far = goes-far _ _ _ _ _ _ (taken _ _ _ _ _ _ (l .inv) (turned .one-record .ensures .0)) (c .before .t .given .1) in
     omega arith
 
 loop-less : tie.Need-loop-less Inv-loop μ-loop
 loop-less c =
     let turned = c .before .before .before in
     let l = turned .before .before .before .loop in
-    let far = goes-far _ _ _ _ _ _ (taken _ _ _ _ _ _ (l .inv) (turned .one-record .ensures)) (c .before .t .given .1) in
+    let far = goes-far _ _ _ _ _ _ (taken _ _ _ _ _ _ (l .inv) (turned .one-record .ensures .0)) (c .before .t .given .1) in
     omega arith
 
 loop-again : tie.Need-loop-again Inv-loop μ-loop
 loop-again c =
     let turned = c .before .before .before in
     let l = turned .before .before .before .loop in
-    let h = taken _ _ _ _ _ _ (l .inv) (turned .one-record .ensures) in
+    let h = taken _ _ _ _ _ _ (l .inv) (turned .one-record .ensures .0) in
     (goes-far _ _ _ _ _ _ h (c .before .t .given .1) .1, goes-on _ _ _ _ _ _ h (c .before .t .given .1))
 
 enum-known-t-2 : tie.Need-enum-known-t-2 Inv-loop μ-loop
@@ -81,7 +81,7 @@ returns-2 : tie.Need-returns-2 Inv-loop μ-loop
 returns-2 c =
     let turned = c .before .before .before in
     let l = turned .before .before .before .loop in
-    let h = taken _ _ _ _ _ _ (l .inv) (turned .one-record .ensures) in
+    let h = taken _ _ _ _ _ _ (l .inv) (turned .one-record .ensures .0) in
     replay-meant _ (ends-last _ _ _ _ _ _ h (c .before .t2 .given .1))
 
 pub replay-spec : {M : Type 1} → statement M
