@@ -32,7 +32,7 @@ def compiler():
     name = os.environ.get("CC", "gcc" if NATIVE else "x86_64-linux-gnu-gcc")
     if not shutil.which(name) and name == "x86_64-linux-gnu-gcc" and shutil.which("apt-get") and os.geteuid() == 0:
         for words in (["update"], ["install", "-y", "--no-install-recommends", "gcc-x86-64-linux-gnu", "libc6-dev-amd64-cross"]):
-            subprocess.run(["apt-get", "-q", *words], check=True, stdout=subprocess.DEVNULL)
+            subprocess.run(["apt-get", "-q", *words], check=True, stdout=subprocess.DEVNULL, env={**os.environ, "DEBIAN_FRONTEND": "noninteractive"})
     if not shutil.which(name):
         sys.exit(f"a C compiler for x86-64 is needed: {name} is not on the PATH" + ("" if NATIVE else " (Debian: gcc-x86-64-linux-gnu)"))
     return name
