@@ -112,11 +112,11 @@ fn opened(run: &mut [u32; RUN], n: u8, bytes: &[u8]) -> Turn
         × (now (run .exit) ≡ begins (now (run .entry)) n (Script.valuesOf n (now (bytes .entry)))) ⌝ }
 {
     let used = records::extent(Record::Opening(n));
-    let v = begin(run, n, &bytes[4..used]);
-    if rounds::number(v) == 0 {
+    let judged = begin(run, n, &bytes[4..used]);
+    if rounds::number(judged) == 0 {
         return Turn::Goes(used, Place::Later, Told::Nothing);
     }
-    Turn::Ends(Ending::Judged(v))
+    Turn::Ends(Ending::Judged(judged))
 }
 
 // The process that acts.
