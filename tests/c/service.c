@@ -1,7 +1,7 @@
 /* The monitoring service's side of the call, as a test: document 01's example, every number 0 to 14, and every byte that must stay as it was.
 
-   Trace and report each end at a page that may not be touched and the report begins behind one, so that a byte read or written outside them ends
-   the program. Says 'N passed, M failed', and exits with 0 only where nothing failed. */
+   Trace and report each end at a page that may not be touched, so that a byte read or written behind them ends the program; the bytes before the
+   report are looked at. Says 'N passed, M failed', and exits with 0 only where nothing failed. */
 
 #include <stdio.h>
 #include <stdlib.h>
@@ -23,17 +23,19 @@ static void check(int holds, const char *what)
     }
 }
 
-/* ---- memory with a page behind it, and one before it, that may not be touched: the last byte of size bytes is the last of its page */
+/* ---- size bytes, the last of them the last of its page; the page behind it may not be touched. Before them stand BEFORE bytes and more, all 0 */
+enum { BEFORE = 64 };
+
 static uint8_t *guarded(size_t size)
 {
     size_t page = (size_t)sysconf(_SC_PAGESIZE);
-    size_t inner = (size + page - 1) / page * page + page;
-    uint8_t *start = mmap(NULL, inner + 2 * page, PROT_READ | PROT_WRITE, MAP_PRIVATE | MAP_ANONYMOUS, -1, 0);
-    if (start == MAP_FAILED || mprotect(start, page, PROT_NONE) != 0 || mprotect(start + page + inner, page, PROT_NONE) != 0) {
+    size_t inner = (size + BEFORE + page - 1) / page * page;
+    uint8_t *start = mmap(NULL, inner + page, PROT_READ | PROT_WRITE, MAP_PRIVATE | MAP_ANONYMOUS, -1, 0);
+    if (start == MAP_FAILED || mprotect(start + inner, page, PROT_NONE) != 0) {
         perror("guarded memory");
         exit(2);
     }
-    return start + page + inner - size;
+    return start + inner - size;
 }
 
 /* ---- a trace, record by record */
@@ -107,6 +109,10 @@ static void call(size_t room, uint32_t wanted, unsigned n, const char *what)
     for (size_t i = (size_t)TONGSPARKLE_ROW * n; i < room; i++)
         stays = stays && report[i] == 0xA5;
     check(stays, "all bytes behind the rows stay as they were");
+    int before = 1;
+    for (int i = 1; i <= BEFORE; i++)
+        before = before && *(report - i) == 0;
+    check(before, "the bytes before the report stay as they were");
     for (unsigned p = 0; p < n; p++)
         check(field(p, TONGSPARKLE_ROUND) >= 1, "a row that is written has a round");
 }

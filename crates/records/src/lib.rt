@@ -41,7 +41,7 @@ pub enum Record {
 }
 
 // What a record's first byte says.
-pub enum Tag {
+enum Tag {
     Opening,
     Send,
     Receive,

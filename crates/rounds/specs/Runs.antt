@@ -1,4 +1,4 @@
--- Runs over a list of events, what they report, and the replay that stops at the first refusal.
+-- Runs over a list of events, what they report, the replay that stops at the first refusal, and a night: a replay with its opening.
 -- Assumes nothing.
 use Prim.Native.Nat.{ℕ, zero, suc}
 use mathlib.Core.List.{List, [], _∷_, _++_}

@@ -52,6 +52,7 @@ endedBy v x = ifAccepted v x (Judged v)
 unfoldable pub nobody : Ending → Outcome
 nobody x = record { ending = x; config = noRun; reports = [] }
 
+-- by what stands first: an event or an end record never does
 unfoldable pub outcomeOf : List ℕ → Script → Record → Outcome
 outcomeOf w s (Opening n) =
     record {

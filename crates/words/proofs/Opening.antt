@@ -153,8 +153,7 @@ module _ (m : Mem) (n x : ℕ) (v : ℕ → ℕ) (f : Fresh m x (v x)) where
             rw (zero-at (COUNTS + index s) (omega arith) (λ e. omega arith) (λ e. omega arith) (λ e. omega arith), since-zero) (omega arith);
       }
 
--- ---- the opened memory
--- with no word written there is no process
+-- ---- a memory of zeros: there is no process
 pub blank-shown : (v : ℕ → ℕ) → Shown blank (openControl 0) (openContent v)
 unfolding openControl
 blank-shown v =
@@ -165,6 +164,7 @@ blank-shown v =
       each = λ p h. absurd (omega arith);
     }
 
+-- ---- the opened memory
 pub opened-shown : (n : ℕ) (xs : List ℕ) (v : ℕ → ℕ) → n ≤ mostProcesses → Given n xs v → Shown (opened n xs) (openControl n) (openContent v)
 unfolding opened openControl
 opened-shown n xs v few given =

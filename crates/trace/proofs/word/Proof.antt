@@ -46,7 +46,9 @@ add-result-3 c = search needs
 
 returns : tie.Need-returns
 unfolding word
-returns c = cc
+returns c =
+    let c3 = c .before .before .before in
+    rw (c3 .byte .ensures .0, c .before .before .byte2 .ensures .0, c .before .byte3 .ensures .0, c .byte4 .ensures .0)
 
 pub word-spec : {M : Type 1} → statement M
 word-spec =
