@@ -4,5 +4,6 @@ pub mod AllExamples
 pub mod Cutting
 pub mod Whole
 pub mod Scripts
+pub mod Stored
 pub mod Rules
 pub mod Rest

@@ -1,21 +1,16 @@
--- Bytes stored one after the other from a place on: two runs of stores in a row are one, and from the first place on they stand before what is left.
--- Assumes nothing.
-use Prim.Native.Nat.{ℕ, zero, suc, _+_, _*_, _≤_}
+-- The words and rows of a report as bytes stored one after the other, each at its place. Assumes nothing.
+use Prim.Native.Nat.{ℕ, zero, suc, _+_, _*_}
 use native.Mathlib.Omega.{arith}
 use native.Mathlib.Numerals.{add-one}
 use mathlib.Core.Path.{_≡_, refl, sym, _∙_}
 use mathlib.Core.List.{List, [], _∷_, _++_}
 use lib.ListN.{length, set, length-append}
-use lib.Seq.{sets, sets-eq}
+use lib.Seq.{sets}
 use Rattle.words.specs.declared.Standing.{Standing}
-use Rattle.tongsparkle.specs.Report.{word, over, rowOf, rowsBelow, rowBytes}
+use Rattle.records.proofs.Stored.{sets-sets}
+use Rattle.tongsparkle.specs.Report.{word, rowOf, rowsBelow, rowBytes}
 
--- ---- stores in a row
-pub sets-sets : (v l : List ℕ) (at : ℕ) (w : List ℕ) → sets (sets l at v) (at + length v) w ≡ sets l at (v ++ w)
-sets-sets [] l at w = let e : at + 0 ≡ at = omega arith in rw e
-sets-sets (x ∷ v) l at w = let e : at + suc (length v) ≡ suc at + length v = omega arith in rw e (sets-sets v (set l at x) (suc at) w)
-
--- four, as the code has their places
+-- ---- four bytes, as the code has their places
 pub four-sets : (l : List ℕ) (at a b c d : ℕ) → set (set (set (set l at a) (at + 1) b) (at + 2) c) (at + 3) d ≡ sets l at (a ∷ b ∷ c ∷ d ∷ [])
 four-sets l at a b c d =
     let one : at + 1 ≡ suc at = omega arith in
@@ -44,11 +39,6 @@ six-words l at s =
     ∙ apart (word (s .collecting)) _ (at + 8) (at + 12) _ (omega (arith, word-length (s .collecting)))
     ∙ apart (word (s .pending)) _ (at + 12) (at + 16) _ (omega (arith, word-length (s .pending)))
     ∙ apart (word (s .idle)) _ (at + 16) (at + 20) _ (omega (arith, word-length (s .idle))))
-
--- ---- from the first place on
-pub sets-over : (w l : List ℕ) → length w ≤ length l → sets l 0 w ≡ over w l
-unfolding over
-sets-over w l h = let e : 0 + length w ≡ length w = omega arith in rw e at (sets-eq w l 0 (omega arith))
 
 -- ---- the rows
 pub row-length : (s : Standing) → length (rowOf s) ≡ rowBytes

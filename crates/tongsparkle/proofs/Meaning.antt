@@ -14,12 +14,14 @@ use Rattle.words.specs.Spelled.{people}
 use Rattle.words.specs.Calls.{standingOf}
 use Rattle.words.specs.Shows.{Shows, standing}
 use Rattle.words.proofs.Reading.{size-means, site-means}
+use Rattle.records.specs.Stored.{over}
+use Rattle.records.proofs.Stored.{sets-over}
 use Rattle.trace.specs.declared.Ending.{Ending}
 use Rattle.trace.specs.Outcome.{endingNumber, outcome}
 use Rattle.trace.specs.Claims.{Revalued}
 use Rattle.trace.proofs.Values.{values-alone}
-use Rattle.tongsparkle.specs.Report.{row, rows, reportOf, room, numberGiven, over, reportLeft, rowOf, rowsBelow}
-use Rattle.tongsparkle.proofs.Bytes.{sets-over, rows-length}
+use Rattle.tongsparkle.specs.Report.{row, rows, reportOf, room, numberGiven, reportLeft, rowOf, rowsBelow}
+use Rattle.tongsparkle.proofs.Bytes.{rows-length}
 
 -- ---- what is written of a memory is the report of the run that it shows
 module _ (m : Mem) (c : Config) (k : Shows m c) where

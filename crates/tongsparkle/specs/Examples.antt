@@ -5,9 +5,10 @@ use mathlib.Core.List.{List, [], _∷_, _++_}
 use lib.Dec.{eqb}
 use lib.ListN.{replicate}
 use Rattle.rounds.specs.Examples.{equal}
+use Rattle.records.specs.Stored.{over}
 use Rattle.records.specs.Examples.{input}
 use Rattle.trace.specs.Examples.{comesTo}
-use Rattle.tongsparkle.specs.Report.{word, row, rows, reportOf, numberGiven, over, reportLeft}
+use Rattle.tongsparkle.specs.Report.{word, row, rows, reportOf, numberGiven, reportLeft}
 
 -- the number given, and every byte of the report afterwards. To unfold it is to unfold reading, machine and report
 unfoldable pub gives : List ℕ → List ℕ → ℕ → List ℕ → Bool

@@ -3,11 +3,12 @@ use Prim.Native.Nat.{ℕ, zero, suc, _*_, _/_, _%_}
 use mathlib.Core.Bool.{cond}
 use mathlib.Core.List.{List, [], _∷_, _++_}
 use lib.Dec.{ltb}
-use lib.ListN.{length, drop}
+use lib.ListN.{length}
 use Rattle.rounds.specs.declared.Stage.the-variants.{Sending, Collecting, Pending, Idle}
 use Rattle.rounds.specs.Limits.{mostProcesses}
 use Rattle.rounds.specs.Run.{Control}
 use Rattle.words.specs.declared.Standing.{Standing}
+use Rattle.records.specs.Stored.{over}
 use Rattle.trace.specs.Outcome.{endingNumber, outcome}
 
 -- ---- a number in four bytes, big-endian
@@ -42,9 +43,6 @@ room = mostProcesses * rowBytes
 
 unfoldable pub numberGiven : List ℕ → List ℕ → ℕ
 numberGiven trace report = cond (ltb (length report) room) 14 (endingNumber (outcome trace .ending))
-
-unfoldable pub over : List ℕ → List ℕ → List ℕ
-over bytes report = bytes ++ drop (length bytes) report
 
 unfoldable pub reportLeft : List ℕ → List ℕ → List ℕ
 reportLeft trace report = cond (ltb (length report) room) report (over (reportOf (outcome trace .config .control)) report)

@@ -2,5 +2,7 @@
 pub mod Meaning
 pub mod AllExamples
 pub mod Turning
+pub mod Telling
+pub mod Pausing
 pub mod Looping
 pub mod Values

@@ -52,7 +52,7 @@ record-within c w End l = (omega arith, l)
 record-within c w (Wrong f) l = tt
 record-within c w Cut l = tt
 
-goes-within : {k : ℕ} {next : Place} {t : Told} (pl : Place) (c : Control) (w : List ℕ) → turn pl c w ≡ Goes k next t → (0 < k) × (k ≤ length w)
+pub goes-within : {k : ℕ} {next : Place} {t : Told} (pl : Place) (c : Control) (w : List ℕ) → turn pl c w ≡ Goes k next t → (0 < k) × (k ≤ length w)
 unfolding turn Within
 goes-within pl c w e = subst (Within w) e (record-within c w (parse pl w) (extent-within pl w))
 

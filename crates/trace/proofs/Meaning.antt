@@ -4,25 +4,22 @@ use Prim.Native.Nat.{ℕ}
 use native.Mathlib.Omega.{arith}
 use mathlib.Core.Path.{_≡_, refl, _∙_}
 use mathlib.Core.Bool.{Bool, true, false, cond}
-use mathlib.Core.List.{List, []}
+use mathlib.Core.List.{List}
 use borrow.Author.Tests.{eq-eqb}
 use lib.ListN.{length}
 use Rattle.sets.proofs.Determined.{determined}
-use Rattle.rounds.specs.declared.Event.{Event}
 use Rattle.rounds.specs.declared.Verdict.{Verdict}
 use Rattle.rounds.specs.declared.Verdict.the-variants.{Accepted}
-use Rattle.rounds.specs.Run.{Control, Config, opening}
-use Rattle.rounds.specs.Verdicts.{accepted, openVerdict, verdict}
+use Rattle.rounds.specs.Run.{Config, opening}
+use Rattle.rounds.specs.Verdicts.{accepted, openVerdict}
 use Rattle.rounds.specs.Events.{ifAccepted}
-use Rattle.rounds.specs.Runs.{told, valueAt, nightVerdict, night, nightReports}
+use Rattle.rounds.specs.Runs.{valueAt, nightVerdict, night, nightReports}
 use Rattle.rounds.proofs.Answers.{is-accepted}
-use Rattle.words.specs.declared.Answer.{Answer}
-use Rattle.words.specs.declared.Answer.the-variants as answer
 use Rattle.words.specs.Layout.{Mem}
 use Rattle.words.specs.Spelled.{controlOf}
-use Rattle.words.specs.Calls.{opened, begins, answer as answerOf, nightWords}
-use Rattle.words.specs.Shows.{Shows, reported}
-use Rattle.words.proofs.Answering.{answer-shown, answer-report}
+use Rattle.words.specs.Calls.{blank, opened, begins, nightWords}
+use Rattle.words.specs.Shows.{Shows}
+use Rattle.words.proofs.Answering.{answer-shown}
 use Rattle.words.proofs.Meaning.{blank-shows, shows-next}
 use Rattle.words.proofs.Replaying.{opens-shows, night-shows}
 use Rattle.records.specs.declared.Place.{Place}
@@ -40,8 +37,9 @@ use Rattle.trace.specs.declared.Ending.the-variants.{Judged}
 use Rattle.trace.specs.declared.Turn.{Turn}
 use Rattle.trace.specs.Outcome.{endingNumber, atEnd, closing, closes, endedBy, nobody, outcomeOf, outcome}
 use Rattle.trace.specs.Claims.{Revalued}
+use Rattle.trace.proofs.Telling.{toldAhead, told-from-the-start}
 use Rattle.trace.proofs.Values.{Blind, values-alone}
-use Rattle.trace.specs.Turns.{reportsOf, tells, turnOn, turn, runOn, next, wordsOn, turned, leftBy, traceWords}
+use Rattle.trace.specs.Turns.{turnOn, turn, runOn, next, wordsOn, turned, leftBy, traceWords}
 
 -- ---- the words that a trace leaves show the run that it reaches
 left-shows : (w : List ℕ) (s : Script) (r : Record) → Shows (leftBy w s r) (outcomeOf w s r .config)
@@ -86,14 +84,9 @@ unfolding turn turned next
 one-record-meant pl m w p =
     (p, λ c k. let means = record-means m c w k (parse pl w) in (p .0 ∙ means .0, rw (p .1) (means .1)))
 
--- ---- what an accepted event tells is the heard-of set that the abstract machine reports
-told-same : (e : Event) (a : Answer) → reportsOf (tells e a) ≡ reported e a
-unfolding reportsOf tells reported
-told-same e (answer.Judged v) = refl
-told-same e (answer.Finished r h) = refl
-
-pub tells-reports : (c : Control) (e : Event) → reportsOf (tells e (answerOf c e)) ≡ ifAccepted (verdict c e) (told c e) []
-tells-reports c e = told-same e (answerOf c e) ∙ answer-report c e
+-- ---- what the records tell, one after the other, is what the abstract machine reports
+pub turns-tell : (w : List ℕ) → toldAhead First blank w ≡ outcome w .reports
+turns-tell = told-from-the-start
 
 -- ---- two traces that differ in the values of their opening alone: Demand 3 for bytes
 pub opening-values-alone : (w u : List ℕ) (d : Revalued w u) → Blind w u (d .size)

@@ -109,7 +109,7 @@ module _ (w u : List ℕ) (s t : Script) (events : s .events ≡ t .events) (clo
   same-reports Cut = refl
 
 -- ---- more bytes only add to the events of an opening that is whole
-values-more : (n : ℕ) (w more : List ℕ) → 4 + 4 * n ≤ length w → valuesOf n (w ++ more) ≡ valuesOf n w
+pub values-more : (n : ℕ) (w more : List ℕ) → 4 + 4 * n ≤ length w → valuesOf n (w ++ more) ≡ valuesOf n w
 unfolding valuesOf
 values-more n w more l =
     let d : 4 ≤ length w = omega arith in

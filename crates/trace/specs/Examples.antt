@@ -24,22 +24,22 @@ comesTo bytes number events reports =
     && (eqb (outcome bytes .config .control .events) events && equal (figures (outcome bytes .reports)) reports)
 
 -- ---- pieces of traces
-abbrev openTwo : List ℕ
+abbrev pub openTwo : List ℕ
 openTwo = 1 ∷ 0 ∷ 9 ∷ 2 ∷ 0 ∷ 0 ∷ 0 ∷ 7 ∷ 0 ∷ 0 ∷ 0 ∷ 4 ∷ []
 
-abbrev send : ℕ → ℕ → List ℕ
+abbrev pub send : ℕ → ℕ → List ℕ
 send p q = 16 ∷ 0 ∷ 2 ∷ p ∷ q ∷ []
 
-abbrev receive : ℕ → ℕ → List ℕ
+abbrev pub receive : ℕ → ℕ → List ℕ
 receive p q = 17 ∷ 0 ∷ 2 ∷ p ∷ q ∷ []
 
-abbrev step : ℕ → List ℕ
+abbrev pub step : ℕ → List ℕ
 step p = 18 ∷ 0 ∷ 1 ∷ p ∷ []
 
-abbrev broadcast : ℕ → List ℕ
+abbrev pub broadcast : ℕ → List ℕ
 broadcast p = 19 ∷ 0 ∷ 1 ∷ p ∷ []
 
-abbrev end : List ℕ
+abbrev pub end : List ℕ
 end = 127 ∷ 0 ∷ 0 ∷ []
 
 -- ---- document 01's trace, with the figures of its sheet

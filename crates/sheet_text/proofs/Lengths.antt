@@ -1,0 +1,99 @@
+-- How many bytes the numbers, the fields and the lines of the sheet take at most. Assumes nothing.
+use Prim.Native.Nat.{ℕ, zero, suc, _+_, _/_, _%_, _^_, _≤_, _<_}
+use native.Mathlib.Nat.{eq-zero-or-pos, pow-suc}
+use native.Mathlib.Omega.{arith}
+use mathlib.Core.Path.{_≡_, refl, ap}
+use mathlib.Core.List.{List, [], _∷_}
+use mathlib.Core.Logic.{⊎-elim}
+use lib.ListN.{length, length-append}
+use mir.Val.{Val}
+use denote.Shadow.{shadow}
+use Rattle.voting.specs.declared.Choice.{Choice}
+use Rattle.voting.specs.declared.Choice.the-variants.{Absent, Present}
+use Rattle.voting.proofs.Choice.{the-field}
+use Rattle.words.specs.declared.Standing.{Standing}
+use Rattle.words.specs.Spelled.{wordOf}
+use Rattle.sheet_text.specs.Written.{Fits}
+use Rattle.sheet_text.specs.Pieces.{lineRoom}
+use Rattle.sheet_text.specs.Text.{glyph, decimal, hex, field, setField, choiceField, hLine, wLine, vLine, eLine}
+use Rattle.sheet_text.proofs.Writing.{decimal-one, decimal-more}
+
+-- ---- numbers
+pub decimal-length : (k n : ℕ) → n < 10 ^ suc k → length (decimal n) ≤ suc k
+decimal-length zero n h = let one : n < 10 = omega arith in omega (arith, ap length (decimal-one n one))
+decimal-length (suc k) n h =
+    ⊎-elim
+    (λ (z : n / 10 ≡ 0). let one : n < 10 = omega arith in omega (arith, ap length (decimal-one n one)))
+    (λ (p : 0 < n / 10).
+    let more : 10 ≤ n = omega arith in
+    let before : length (decimal (n / 10)) ≤ suc k = decimal-length k (n / 10) (omega (arith, pow-suc 10 (suc k))) in
+    omega (arith, ap length (decimal-more n more), length-append (decimal (n / 10)) (glyph (n % 10) ∷ [])))
+    (eq-zero-or-pos (n / 10))
+
+-- ---- fields
+pub field-length : (n : ℕ) → n < 2 ^ 32 → length (field n) ≤ 11
+unfolding field
+field-length n h = let d : length (decimal n) ≤ 10 = decimal-length 9 n (omega arith) in omega arith
+
+pub byte-field-length : (n : ℕ) → n < 256 → length (field n) ≤ 4
+unfolding field
+byte-field-length n h = let d : length (decimal n) ≤ 3 = decimal-length 2 n (omega arith) in omega arith
+
+pub set-field-length : (s : ℕ) → length (setField s) ≡ 5
+unfolding setField hex
+set-field-length s = refl
+
+-- a choice that the code holds is a word of 32 bits, if it is present
+pub choice-word : (v : Choice) (vs : List Val) → shadow (the-field .row .own (the-field .into v) vs) → wordOf v < 2 ^ 32
+unfolding wordOf
+choice-word Absent vs h = omega arith
+choice-word (Present x) vs h = omega arith
+
+pub choice-length : (v : Choice) → wordOf v < 2 ^ 32 → length (choiceField v) ≤ 11
+unfolding choiceField wordOf
+choice-length Absent h = omega arith
+choice-length (Present x) h = field-length x h
+
+-- ---- lines; no line is longer than a `w` line may be
+pub h-length : (p r h : ℕ) → p < 256 → r < 2 ^ 32 → length (hLine p r h) ≤ 66
+unfolding hLine
+h-length p r h hp hr = simp length-append (omega (arith, byte-field-length p hp, field-length r hr, set-field-length h))
+
+pub w-length : (p : ℕ) (s : Standing) → p < 256 → s .round < 2 ^ 32 → s .sending < 2 ^ 32 → s .collecting < 2 ^ 32 → s .pending < 2 ^ 32 → s .idle < 2 ^ 32
+    → length (wLine p s) ≤ 66
+unfolding wLine
+w-length p s hp hr hs hc hw hi =
+    let head : length (field p) ≤ 4 = byte-field-length p hp in
+    let round : length (field (s .round)) ≤ 11 = field-length (s .round) hr in
+    let sending : length (field (s .sending)) ≤ 11 = field-length (s .sending) hs in
+    let collecting : length (field (s .collecting)) ≤ 11 = field-length (s .collecting) hc in
+    let pending : length (field (s .pending)) ≤ 11 = field-length (s .pending) hw in
+    let idle : length (field (s .idle)) ≤ 11 = field-length (s .idle) hi in
+    simp length-append (omega (arith, set-field-length (s .reach)))
+
+pub v-length : (p : ℕ) (s : Standing) → p < 256 → s .value < 2 ^ 32 → wordOf (s .vote) < 2 ^ 32 → wordOf (s .decision) < 2 ^ 32 → length (vLine p s) ≤ 66
+unfolding vLine
+v-length p s hp hx hv hd =
+    simp length-append (omega (arith, byte-field-length p hp, field-length (s .value) hx, choice-length (s .vote) hv, choice-length (s .decision) hd))
+
+pub e-length : (events number : ℕ) → events < 2 ^ 32 → number < 2 ^ 32 → length (eLine events number) ≤ 66
+unfolding eLine
+e-length events number he hn = simp length-append (omega (arith, field-length events he, field-length number hn))
+
+-- ---- so each fits where there is room for a line
+fits : {l w : List ℕ} {at : ℕ} → length w ≤ lineRoom → at + lineRoom ≤ length l → Fits l at w
+fits h f = record { room = omega (arith, h, f) }
+
+pub h-fits : {l : List ℕ} {at : ℕ} (p r h : ℕ) → p < 256 → r < 2 ^ 32 → at + lineRoom ≤ length l → Fits l at (hLine p r h)
+h-fits p r h hp hr f = fits (h-length p r h hp hr) f
+
+pub w-fits : {l : List ℕ} {at : ℕ} (p : ℕ) (s : Standing) → p < 256 → s .round < 2 ^ 32 → s .sending < 2 ^ 32 → s .collecting < 2 ^ 32 → s .pending < 2 ^ 32
+    → s .idle < 2 ^ 32 → at + lineRoom ≤ length l → Fits l at (wLine p s)
+w-fits p s hp a b c d e f = fits (w-length p s hp a b c d e) f
+
+pub v-fits : {l : List ℕ} {at : ℕ} (p : ℕ) (s : Standing) → p < 256 → s .value < 2 ^ 32 → wordOf (s .vote) < 2 ^ 32 → wordOf (s .decision) < 2 ^ 32
+    → at + lineRoom ≤ length l → Fits l at (vLine p s)
+v-fits p s hp a b c f = fits (v-length p s hp a b c) f
+
+pub e-fits : {l : List ℕ} {at : ℕ} (events number : ℕ) → events < 2 ^ 32 → number < 2 ^ 32 → at + lineRoom ≤ length l → Fits l at (eLine events number)
+e-fits events number a b f = fits (e-length events number a b) f

@@ -1,0 +1,9 @@
+-- Start at Adding: the pieces of a sheet add up to it. Blind is what the line carrier may rely on. Below them stand the examples, and what the
+-- functions rest on.
+pub mod Adding
+pub mod Blind
+pub mod AllExamples
+pub mod Pacing
+pub mod Shifting
+pub mod Writing
+pub mod Lengths

@@ -1,0 +1,243 @@
+-- What the loops of the pieces rest on: a piece after the records, or the lines, that it has gone over so far. Assumes nothing.
+use Prim.Native.Nat.{ℕ, zero, suc, _+_, _-_, _≤_, _<_}
+use native.Mathlib.Omega.{arith}
+use mathlib.Core.Path.{_≡_, refl, sym, ap, _∙_}
+use mathlib.Core.Bool.{Bool, true, false}
+use mathlib.Core.List.{List, [], _∷_, _++_, append-assoc, append-nil}
+use borrow.Author.Tests.{lt-ltb, le-ltb}
+use lib.ListN.{length, take, drop, length-drop}
+use lib.Seq.{drop-drop}
+use Rattle.words.specs.declared.Standing.{Standing}
+use Rattle.words.specs.Layout.{Mem, Head, get, EVENTS}
+use Rattle.words.specs.Spelled.{controlOf, people}
+use Rattle.words.specs.Calls.{standingOf}
+use Rattle.records.specs.declared.Place.{Place}
+use Rattle.records.proofs.Rest.{rest}
+use Rattle.records.proofs.Stored.{sets-over}
+use Rattle.trace.specs.declared.Ending.{Ending}
+use Rattle.trace.specs.declared.Told.{Told}
+use Rattle.trace.specs.declared.Turn.{Turn}
+use Rattle.trace.specs.declared.Turn.the-variants.{More, Goes, Ends}
+use Rattle.trace.specs.Outcome.{endingNumber, atEnd}
+use Rattle.trace.specs.Turns.{turn, turned}
+use Rattle.trace.proofs.Looping.{goes-within}
+use Rattle.trace.proofs.Pausing.{no-bytes, more-kept}
+use Rattle.sheet_text.specs.declared.Stand.{Stand}
+use Rattle.sheet_text.specs.declared.Stand.the-variants.{Reads, Closes}
+use Rattle.sheet_text.specs.declared.Wants.{Wants}
+use Rattle.sheet_text.specs.declared.Wants.the-variants as wants
+use Rattle.sheet_text.specs.declared.Piece.{Piece}
+use Rattle.sheet_text.specs.Text.{wLine, vLine, eLine}
+use Rattle.sheet_text.specs.Written.{Wrote}
+use Rattle.sheet_text.specs.Pieces.{lineRoom, Part, rests, adds, toldText, waits, onTurn, follow, closingLine, closingCount, closing, said, Came}
+use Rattle.sheet_text.proofs.Writing.{wrote-none, wrote-one, wrote-length}
+
+-- ---- one part of a piece after another
+adds-adds : (a b : ℕ) (v w : List ℕ) (x : Part) → adds a v (adds b w x) ≡ adds (a + b) (v ++ w) x
+unfolding adds
+adds-adds a b v w x =
+    let e : a + (b + x .used) ≡ a + b + x .used = omega arith in
+    rw (e, append-assoc v w (x .text))
+
+adds-none : (x : Part) → x ≡ adds 0 [] x
+unfolding adds
+adds-none x = let e : 0 + x .used ≡ x .used = omega arith in rw e
+
+-- ---- a piece while the trace is read, record by record
+behind-drop : (last : Bool) (room k : ℕ) (pl : Place) (m : Mem) (w : List ℕ) → follow last room k pl m w ≡ follow last room 0 pl m (drop k w)
+unfolding follow
+behind-drop last room zero pl m w = refl
+behind-drop last room (suc k) pl m [] = refl
+behind-drop last room (suc k) pl m (b ∷ bs) = behind-drop last room k pl m bs
+
+next-drop : (last : Bool) (room k : ℕ) (pl : Place) (m : Mem) (b : ℕ) (bs : List ℕ) → 0 < k
+    → follow last room (k - 1) pl m bs ≡ follow last room 0 pl m (drop k (b ∷ bs))
+next-drop last room zero pl m b bs l = absurd (omega arith)
+next-drop last room (suc k) pl m b bs l = let e : suc k - 1 ≡ k = omega arith in rw e (behind-drop last room k pl m bs)
+
+on-same : (last : Bool) (pl : Place) (m : Mem) (t : Turn) (f g : ℕ → Place → Told → Part)
+    → ((k : ℕ) (place : Place) (y : Told) → t ≡ Goes k place y → f k place y ≡ g k place y) → onTurn last pl m t f ≡ onTurn last pl m t g
+unfolding onTurn
+on-same last pl m More f g same = refl
+on-same last pl m (Goes k place y) f g same = ap (adds k (toldText y)) (same k place y refl)
+on-same last pl m (Ends x) f g same = refl
+
+module _ (last : Bool) (room : ℕ) (pl : Place) (m : Mem) where
+  full-is : (w : List ℕ) → room < lineRoom → follow last room 0 pl m w ≡ rests (Reads pl) m wants.Room
+  unfolding follow
+  full-is [] l = rw (lt-ltb room lineRoom l)
+  full-is (b ∷ bs) l = rw (lt-ltb room lineRoom l)
+
+  turn-is : (w : List ℕ) → lineRoom ≤ room
+      → follow last room 0 pl m w
+      ≡ onTurn last pl (turned pl m w) (turn pl (controlOf m) w) (λ k place y. follow last (room - length (toldText y)) 0 place (turned pl m w) (drop k w))
+  unfolding follow onTurn
+  turn-is [] l =
+      let more = no-bytes pl (controlOf m) in
+      rw (le-ltb room lineRoom l, more, more-kept pl (controlOf m) m [] more)
+  turn-is (b ∷ bs) l =
+      rw (le-ltb room lineRoom l)
+      (on-same last pl (turned pl m (b ∷ bs)) (turn pl (controlOf m) (b ∷ bs)) _ _
+      (λ k place y e. next-drop last (room - length (toldText y)) k place (turned pl m (b ∷ bs)) b bs (goes-within pl (controlOf m) (b ∷ bs) e .0)))
+
+-- ---- what a piece comes to
+answered : ℕ → ℕ → Stand → Wants → Piece
+answered u n s v = record { used = u; written = n; stand = s; wants = v }
+
+came : {x : Part} {w out₀ out : List ℕ} {used written : ℕ} {s : Stand} {m : Mem} {v : Wants} (text : List ℕ) → used ≤ length w → written ≤ length out
+    → Wrote out₀ out 0 written text → x ≡ adds used text (rests s m v) → Came x w out₀ (record { used = used; written = written; stand = s; wants = v }) m out
+unfolding adds rests said answered
+came {x} {w} {out₀} {out} {used} {written} {s} {m} {v} text l room wrote e =
+    let long = wrote-length wrote in
+    let place : length text ≡ written = omega (arith, wrote .place) in
+    let plus : used + 0 ≡ used = omega arith in
+    let same : answered used written s v ≡ answered (used + 0) (length (text ++ [])) s v = rw (append-nil text, place, plus) in
+    record {
+      says = rw e same;
+      words = rw e;
+      text = rw (e, append-nil text) (wrote .bytes ∙ sets-over text out₀ (omega arith));
+      within = l;
+      room = omega arith;
+    }
+
+-- ---- the loop that reads: x is the whole piece, and the rest of it is a piece from here on
+module _ (last : Bool) (x : Part) (out₀ w : List ℕ) where
+  pub record Gone (pl : Place) (m : Mem) (out : List ℕ) (used written : ℕ) : Type 0 where
+    pub within : used ≤ length w
+    pub room : written ≤ length out
+    pub text : List ℕ
+    pub wrote : Wrote out₀ out 0 written text
+    pub part : x ≡ adds used text (follow last (length out₀ - written) 0 pl m (drop used w))
+
+  module _ (pl : Place) (m : Mem) (out : List ℕ) (used written : ℕ) where
+    pub full-came : Gone pl m out used written → length out - written < lineRoom
+        → Came x w out₀ (record { used = used; written = written; stand = Reads pl; wants = wants.Room }) m out
+    full-came h l =
+        came (h .text) (h .within) (h .room) (h .wrote)
+        (h .part
+        ∙ ap (adds used (h .text)) (full-is last (length out₀ - written) pl m (drop used w) (let long = wrote-length (h .wrote) in omega arith)))
+
+    -- a turn, with room for a line
+    module _ (m′ : Mem) (t : Turn) where
+      pub record Turned : Type 0 where
+        pub so : Gone pl m out used written
+        pub wide : lineRoom ≤ length out - written
+        pub answer : t ≡ turn pl (controlOf m) (drop used w)
+        pub words : m′ ≡ turned pl m (drop used w)
+
+      pub took : Gone pl m out used written → lineRoom ≤ length out - written
+          → (t ≡ turn pl (controlOf m) (take (length w - used) (drop used w))) × (m′ ≡ turned pl m (take (length w - used) (drop used w))) → Turned
+      took h l e = record { so = h; wide = l; answer = rw rest at (e .0); words = rw rest at (e .1) }
+
+      pub goes-far : {k : ℕ} {place : Place} {y : Told} → Turned → t ≡ Goes k place y → (0 < k) × (used + k ≤ length w)
+      goes-far c e =
+          let far = goes-within pl (controlOf m) (drop used w) (sym (c .answer) ∙ e) in
+          (far .0, omega (arith, far .1, length-drop used w, c .so .within))
+
+      decides : (c : Turned) (u : Turn) → t ≡ u
+          → x ≡ adds used (c .so .text) (onTurn last pl m′ u (λ k place y. follow last (length out₀ - written - length (toldText y)) 0 place m′ (drop k (drop used w))))
+      decides c u e =
+          let long = wrote-length (c .so .wrote) in
+          let q : turn pl (controlOf m) (drop used w) ≡ u = sym (c .answer) ∙ e in
+          rw (c .words)
+          (c .so .part
+          ∙ ap (adds used (c .so .text)) (turn-is last (length out₀ - written) pl m (drop used w) (omega (arith, c .wide, long)) ∙ rw q))
+
+      pub goes-on : {k : ℕ} {place : Place} {y : Told} {out′ : List ℕ} {written′ : ℕ} → Turned → t ≡ Goes k place y
+          → (Wrote out out′ written written′ (toldText y)) × (written′ ≤ length out′) → Gone place m′ out′ (used + k) written′
+      unfolding onTurn
+      goes-on {k} {place} {y} {out′} {written′} c e p =
+          let less : length out₀ - written - length (toldText y) ≡ length out₀ - written′ = omega (arith, p .0 .place) in
+          record {
+            within = goes-far c e .1;
+            room = p .1;
+            text = c .so .text ++ toldText y;
+            wrote = wrote-one (c .so .wrote) (p .0);
+            part = decides c (Goes k place y) e ∙ adds-adds used k (c .so .text) (toldText y) _ ∙ rw (less, drop-drop k used w);
+          }
+
+      pub ends-came : {y : Ending} {n : ℕ} → Turned → t ≡ Ends y → n ≡ endingNumber y
+          → Came x w out₀ (record { used = used; written = written; stand = Closes n 0; wants = wants.Room }) m′ out
+      unfolding onTurn
+      ends-came {y} c e q = rw q (came (c .so .text) (c .so .within) (c .so .room) (c .so .wrote) (decides c (Ends y) e))
+
+      pub more-came : Turned → t ≡ More → last ≡ false
+          → Came x w out₀ (record { used = used; written = written; stand = Reads pl; wants = wants.Input }) m′ out
+      unfolding onTurn waits
+      more-came c e q = came (c .so .text) (c .so .within) (c .so .room) (c .so .wrote) (decides c More e ∙ rw q)
+
+      pub last-came : {n : ℕ} {y : Ending} → Turned → t ≡ More → last ≡ true → y ≡ atEnd pl → n ≡ endingNumber y
+          → Came x w out₀ (record { used = used; written = written; stand = Closes n 0; wants = wants.Room }) m′ out
+      unfolding onTurn waits
+      last-came c e q a b = rw (b, a) (came (c .so .text) (c .so .within) (c .so .room) (c .so .wrote) (decides c More e ∙ rw q))
+
+pub none-gone : (last : Bool) (out w : List ℕ) (pl : Place) (m : Mem) → Gone last (follow last (length out) 0 pl m w) out w pl m out 0 0
+none-gone last out w pl m =
+    let e : length out - 0 ≡ length out = omega arith in
+    record { within = omega arith; room = omega arith; text = []; wrote = wrote-none; part = rw e (adds-none (follow last (length out) 0 pl m w)) }
+
+-- ---- the line that comes next when the trace has ended, as the code finds it
+module _ (m : Mem) (number k n : ℕ) (q : n ≡ people m) where
+  pub closing-w : {s : Standing} → k < n → s ≡ standingOf m k → closingLine m number k ≡ wLine k s
+  unfolding closingLine
+  closing-w l e = rw (← q, lt-ltb k n l, ← e)
+
+  pub closing-v : {s : Standing} → n ≤ k → k < n + n → s ≡ standingOf m (k - n) → closingLine m number k ≡ vLine (k - n) s
+  unfolding closingLine
+  closing-v l h e = rw (← q, le-ltb k n l, lt-ltb k (n + n) h, ← e)
+
+  pub closing-e : {events : ℕ} → n ≤ k → n + n ≤ k → events ≡ get m (Head EVENTS) → closingLine m number k ≡ eLine events number
+  unfolding closingLine
+  closing-e l h e = rw (← q, le-ltb k n l, le-ltb k (n + n) h, ← e)
+
+-- ---- the loop that closes
+module _ (x : Part) (out₀ : List ℕ) (m : Mem) (number : ℕ) where
+  pub record Shut (out : List ℕ) (k written : ℕ) : Type 0 where
+    pub room : written ≤ length out
+    pub text : List ℕ
+    pub wrote : Wrote out₀ out 0 written text
+    pub part : x ≡ adds 0 text (closing (length out₀ - written) (closingCount m - k) number k m)
+
+  module _ (out : List ℕ) (k written : ℕ) (h : Shut out k written) where
+    pub all-came : closingCount m ≤ k → Came x [] out₀ (record { used = 0; written = written; stand = Closes number k; wants = wants.Nothing }) m out
+    unfolding closing
+    all-came l =
+        let e : closingCount m - k ≡ 0 = omega arith in
+        came (h .text) (omega arith) (h .room) (h .wrote) (h .part ∙ rw e)
+
+    -- a line is left
+    one-left : k < closingCount m → closingCount m - k ≡ suc (closingCount m - (k + 1))
+    one-left l = omega arith
+
+    pub short-came : k < closingCount m → length out - written < lineRoom
+        → Came x [] out₀ (record { used = 0; written = written; stand = Closes number k; wants = wants.Room }) m out
+    unfolding closing
+    short-came l short =
+        let long = wrote-length (h .wrote) in
+        came (h .text) (omega arith) (h .room) (h .wrote)
+        (h .part ∙ rw (one-left l, lt-ltb (length out₀ - written) lineRoom (omega arith)))
+
+    pub line-on : {out′ : List ℕ} {written′ : ℕ} → k < closingCount m → lineRoom ≤ length out - written
+        → (Wrote out out′ written written′ (closingLine m number k)) × (written′ ≤ length out′) → Shut out′ (k + 1) written′
+    unfolding closing
+    line-on {out′} {written′} l wide p =
+        let long = wrote-length (h .wrote) in
+        let less : length out₀ - written - length (closingLine m number k) ≡ length out₀ - written′ = omega (arith, p .0 .place) in
+        record {
+          room = p .1;
+          text = h .text ++ closingLine m number k;
+          wrote = wrote-one (h .wrote) (p .0);
+          part =
+              h .part
+              ∙ rw (one-left l, le-ltb (length out₀ - written) lineRoom (omega arith))
+              (adds-adds 0 0 (h .text) (closingLine m number k) _ ∙ rw less);
+        }
+
+pub none-shut : (out : List ℕ) (m : Mem) (number k : ℕ) → Shut (closing (length out) (closingCount m - k) number k m) out m number out k 0
+none-shut out m number k =
+    let e : length out - 0 ≡ length out = omega arith in
+    record { room = omega arith; text = []; wrote = wrote-none; part = rw e (adds-none (closing (length out) (closingCount m - k) number k m)) }
+
+-- it uses no byte of a window
+pub any-window : {x : Part} {w out : List ℕ} {p : Piece} {m out′ : List ℕ} → Came x [] out p m out′ → Came x w out p m out′
+any-window h = record { says = h .says; words = h .words; text = h .text; within = omega (arith, h .within); room = h .room }

@@ -1,0 +1,143 @@
+-- `follow` takes a turn for each record; before each, the piece is what is written so far and a piece from there on.
+-- Assumes nothing.
+use Prim.Native.Nat.{_-_}
+use native.Mathlib.Omega.{arith}
+use lib.ListN.{length}
+use Rattle.sheet_text.specs.Pieces as Pieces
+use Rattle.sheet_text.proofs.Writing.{wrote-length}
+use Rattle.sheet_text.proofs.Pacing.{Gone, none-gone, full-came, took, goes-far, goes-on, ends-came, more-came, last-came}
+use borrow.Author.Needs.{needs}
+use Rattle.sheet_text.proofs.follow.Statement.{statement}
+use Rattle.sheet_text.proofs.follow.Tie as tie
+
+-- `follow` takes a turn for each record; before each, the piece is what is written so far and a piece from there on.
+-- Assumes nothing.
+
+abbrev Inv-loop : tie.InvT-loop
+Inv-loop run₀ window last out₀ used₀ written₀ here₀ run out used written here = Gone last (Pieces.follow last (length out₀) 0 here₀ run₀ window) out₀ window here run out used written
+
+abbrev μ-loop : tie.MeasureT-loop
+μ-loop run₀ window last out₀ used₀ written₀ here₀ run out used written here = length window - used
+
+loop-holds : tie.Need-loop-holds Inv-loop μ-loop
+loop-holds c = none-gone _ _ _ _ _
+
+sub-if1 : tie.Need-sub-if1 Inv-loop μ-loop
+sub-if1 c = c .loop .inv .room
+
+same-length : tie.Need-same-length Inv-loop μ-loop
+same-length c = wrote-length (c .before .loop .inv .wrote)
+
+returns : tie.Need-returns Inv-loop μ-loop
+returns c = full-came _ _ _ _ _ _ _ _ _ (c .before .loop .inv) (c .if1 .taken)
+
+sub-one-record : tie.Need-sub-one-record Inv-loop μ-loop
+sub-one-record c = c .before .before .loop .inv .within
+
+part-one-record-start : tie.Need-part-one-record-start Inv-loop μ-loop
+part-one-record-start c = search needs
+
+part-one-record-end : tie.Need-part-one-record-end Inv-loop μ-loop
+part-one-record-end c = search needs
+
+one-record-requires : tie.Need-one-record-requires Inv-loop μ-loop
+one-record-requires c κs = search needs
+
+enum-told : tie.Need-enum-told Inv-loop μ-loop
+enum-told c = search needs
+
+at-end-requires : tie.Need-at-end-requires Inv-loop μ-loop
+at-end-requires c κs = search needs
+
+number-requires : tie.Need-number-requires Inv-loop μ-loop
+number-requires c κs = search needs
+
+same-length-2 : tie.Need-same-length-2 Inv-loop μ-loop
+same-length-2 c = wrote-length (c .before .before .before .before .before .before .before .before .before .loop .inv .wrote)
+
+returns-2 : tie.Need-returns-2 Inv-loop μ-loop
+returns-2 c =
+    let r = c .before .before .before .before .before in
+    let h = took _ _ _ _ _ _ _ _ _ _ _ (r .before .before .before .before .loop .inv) (r .before .before .before .if1 .left) (r .one-record .ensures .0) in
+    last-came _ _ _ _ _ _ _ _ _ _ _ h (c .before .before .before .enum-told .given .1) (c .before .before .if2 .taken) (c .before .at-end .ensures) (c .number .ensures)
+
+same-length-3 : tie.Need-same-length-3 Inv-loop μ-loop
+same-length-3 c = wrote-length (c .before .before .before .before .before .before .before .loop .inv .wrote)
+
+returns-3 : tie.Need-returns-3 Inv-loop μ-loop
+returns-3 c =
+    let r = c .before .before .before in
+    let h = took _ _ _ _ _ _ _ _ _ _ _ (r .before .before .before .before .loop .inv) (r .before .before .before .if1 .left) (r .one-record .ensures .0) in
+    more-came _ _ _ _ _ _ _ _ _ _ _ h (c .before .enum-told .given .1) (c .if2 .left)
+
+enum-known-t : tie.Need-enum-known-t Inv-loop μ-loop
+enum-known-t c = search needs
+
+put-told-requires : tie.Need-put-told-requires Inv-loop μ-loop
+put-told-requires c κs = omega arith
+
+add-used : tie.Need-add-used Inv-loop μ-loop
+add-used c =
+    let r = c .before .before .before .before .before .before .before in
+    let h = took _ _ _ _ _ _ _ _ _ _ _ (r .before .before .before .before .loop .inv) (r .before .before .before .if1 .left) (r .one-record .ensures .0) in
+    let far = goes-far _ _ _ _ _ _ _ _ _ _ _ h (c .before .before .before .before .before .t .given .1) in
+    omega arith
+
+loop-less : tie.Need-loop-less Inv-loop μ-loop
+loop-less c =
+    let r = c .before .before .before .before .before .before .before in
+    let h = took _ _ _ _ _ _ _ _ _ _ _ (r .before .before .before .before .loop .inv) (r .before .before .before .if1 .left) (r .one-record .ensures .0) in
+    let far = goes-far _ _ _ _ _ _ _ _ _ _ _ h (c .before .before .before .before .before .t .given .1) in
+    omega arith
+
+loop-again : tie.Need-loop-again Inv-loop μ-loop
+loop-again c =
+    let r = c .before .before .before .before .before .before .before in
+    let h = took _ _ _ _ _ _ _ _ _ _ _ (r .before .before .before .before .loop .inv) (r .before .before .before .if1 .left) (r .one-record .ensures .0) in
+    goes-on _ _ _ _ _ _ _ _ _ _ _ h (c .before .before .before .before .before .t .given .1) (c .before .before .put-told .ensures)
+
+enum-known-t-2 : tie.Need-enum-known-t-2 Inv-loop μ-loop
+enum-known-t-2 c = search needs
+
+number-requires-2 : tie.Need-number-requires-2 Inv-loop μ-loop
+number-requires-2 c κs = search needs
+
+same-length-4 : tie.Need-same-length-4 Inv-loop μ-loop
+same-length-4 c = wrote-length (c .before .before .before .before .before .before .before .before .loop .inv .wrote)
+
+returns-4 : tie.Need-returns-4 Inv-loop μ-loop
+returns-4 c =
+    let r = c .before .before .before .before in
+    let h = took _ _ _ _ _ _ _ _ _ _ _ (r .before .before .before .before .loop .inv) (r .before .before .before .if1 .left) (r .one-record .ensures .0) in
+    ends-came _ _ _ _ _ _ _ _ _ _ _ h (c .before .before .t2 .given .1) (c .number2 .ensures)
+
+pub follow-spec : {M : Type 1} → statement M
+follow-spec =
+    tie.close
+    (tie.spec
+    Inv-loop
+    μ-loop
+    loop-holds
+    sub-if1
+    same-length
+    returns
+    sub-one-record
+    part-one-record-start
+    part-one-record-end
+    one-record-requires
+    enum-told
+    at-end-requires
+    number-requires
+    same-length-2
+    returns-2
+    same-length-3
+    returns-3
+    enum-known-t
+    put-told-requires
+    add-used
+    loop-less
+    loop-again
+    enum-known-t-2
+    number-requires-2
+    same-length-4
+    returns-4)

@@ -1,0 +1,26 @@
+-- `put_field` writes the space and, behind it, the number.
+-- Assumes nothing.
+use mathlib.Core.List.{[], _∷_}
+use Rattle.sheet_text.specs.Text.{field}
+use Rattle.sheet_text.proofs.Writing.{wrote-one, fits-first, fits-rest}
+use borrow.Author.Needs.{needs}
+use Rattle.sheet_text.proofs.text.put_field.Statement.{statement}
+use Rattle.sheet_text.proofs.text.put_field.Tie as tie
+
+put-byte-requires : tie.Need-put-byte-requires
+unfolding field
+put-byte-requires c κs = fits-first (_ ∷ []) _ (c .before .before .pre)
+
+put-decimal-requires : tie.Need-put-decimal-requires
+unfolding field
+put-decimal-requires c κs = fits-rest _ (c .before .before .before .before .before .before .pre) (c .before .before .before .put-byte .ensures)
+
+same-length : tie.Need-same-length
+same-length c = search needs
+
+returns : tie.Need-returns
+unfolding field
+returns c = wrote-one (c .before .before .before .before .before .before .put-byte .ensures) (c .before .before .put-decimal .ensures)
+
+pub put-field-spec : {M : Type 1} → statement M
+put-field-spec = tie.close (tie.spec put-byte-requires put-decimal-requires same-length returns)

@@ -1,0 +1,64 @@
+-- Traces and their sheets, whole, each as a test that computes: document 01's, and some of our own. Assumes nothing.
+use Prim.Native.Nat.{ℕ}
+use Prim.Native.String.{String}
+use mathlib.Core.Bool.{Bool}
+use mathlib.Core.List.{List, [], _∷_, _++_}
+use Rattle.rounds.specs.Examples.{equal}
+use Rattle.words.specs.Shows.{standing}
+use Rattle.records.specs.Examples.{input}
+use Rattle.trace.specs.Examples.{comesTo, openTwo, send, receive, step, broadcast, end}
+use Rattle.sheet_text.specs.Ascii.{ascii}
+use Rattle.sheet_text.specs.Text.{glyph, digits, decimal, hex, field, setField, choiceField, hLine, wLine, vLine, eLine}
+use Rattle.sheet_text.specs.Sheet.{hLines, linesBelow, wLines, vLines, sheetOf, sheet}
+use Rattle.sheet_text.specs.Carrier.{keeps, inside, ifKept, withoutLines, withoutVotes}
+
+-- the whole text against the whole input. To unfold it is to unfold reading, machine and sheet
+unfoldable pub shows : List ℕ → String → Bool
+unfolding comesTo standing ascii glyph digits decimal hex field setField choiceField hLine wLine vLine eLine hLines linesBelow wLines vLines sheetOf sheet
+shows bytes text = equal (sheet bytes) (ascii text)
+
+-- what the carrier gets of it
+unfoldable pub carries : List ℕ → String → Bool
+unfolding shows keeps inside ifKept withoutLines withoutVotes
+carries bytes text = equal (withoutVotes (sheet bytes)) (ascii text)
+
+-- ---- document 01's
+unfoldable pub starred : List Bool
+unfolding shows
+starred = shows input "h 0 1 0003\nw 0 2 2 2 1 1 0003\nw 1 1 6 0 0 0 0002\nv 0 4 - -\nv 1 4 - -\ne 6 0\n" ∷ []
+
+-- ---- one process alone, with the greatest value there is: the rounds of sending to itself, hearing itself and stepping
+abbrev openOne : List ℕ
+openOne = 1 ∷ 0 ∷ 5 ∷ 1 ∷ 255 ∷ 255 ∷ 255 ∷ 255 ∷ []
+
+abbrev alone : List ℕ
+alone = send 0 0 ++ (receive 0 0 ++ step 0)
+
+unfoldable pub ours : List Bool
+unfolding shows carries
+ours =
+    -- without an accepted opening only the `e` line is printed
+    shows [] "e 0 9\n"
+    ∷ shows (1 ∷ 0 ∷ 1 ∷ 0 ∷ []) "e 0 1\n"
+    ∷ shows (send 0 0) "e 0 12\n"
+    -- an opening alone
+    ∷ shows (openTwo ++ end) "w 0 1 0 0 0 0 0001\nw 1 1 0 0 0 0 0002\nv 0 7 - -\nv 1 4 - -\ne 0 0\n"
+    -- a refused step prints no line, and what was accepted before it stands
+    ∷ shows (openTwo ++ (send 1 1 ++ step 1)) "w 0 1 1 0 0 0 0001\nw 1 1 1 0 0 0 0002\nv 0 7 - -\nv 1 4 - -\ne 1 6\n"
+    -- a byte behind the end record
+    ∷ shows (input ++ (0 ∷ [])) "h 0 1 0003\nw 0 2 2 2 1 1 0003\nw 1 1 6 0 0 0 0002\nv 0 4 - -\nv 1 4 - -\ne 6 13\n"
+    -- a vote that is present, and then a decision
+    ∷ shows (openOne ++ (alone ++ end)) "h 0 1 0001\nw 0 2 1 1 0 1 0001\nv 0 4294967295 4294967295 -\ne 3 0\n"
+    ∷ shows (openOne ++ (alone ++ (alone ++ end))) "h 0 1 0001\nh 0 2 0001\nw 0 3 2 2 0 2 0001\nv 0 4294967295 - 4294967295\ne 6 0\n"
+    -- a step that heard nobody; a broadcast counts as its sends
+    ∷ shows (openTwo ++ (broadcast 1 ++ (step 1 ++ end))) "h 1 1 0000\nw 0 1 3 0 0 0 0001\nw 1 2 2 1 0 0 0002\nv 0 7 - -\nv 1 4 - -\ne 3 0\n"
+    -- numbers
+    ∷ equal (decimal 0) (ascii "0")
+    ∷ equal (decimal 10) (ascii "10")
+    ∷ equal (decimal 1000000) (ascii "1000000")
+    ∷ equal (decimal 4294967295) (ascii "4294967295")
+    ∷ equal (hex 43981) (ascii "abcd")
+    ∷ equal (hex 10) (ascii "000a")
+    -- what the carrier gets
+    ∷ carries input "h 0 1 0003\nw 0 2 2 2 1 1 0003\nw 1 1 6 0 0 0 0002\ne 6 0\n"
+    ∷ []
