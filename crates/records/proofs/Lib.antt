@@ -4,6 +4,7 @@ pub mod AllExamples
 pub mod Cutting
 pub mod Whole
 pub mod Scripts
+pub mod Short
 pub mod Stored
 pub mod Rules
 pub mod Rest

@@ -105,6 +105,10 @@ parse First w = headed true w
 parse Later w = headed false w
 parse Behind w = needs 1 w (Wrong BytesBehind)
 
+-- ---- how many bytes the longest record has: an opening, whose N is one byte
+abbrev pub longest : ℕ
+longest = 1024
+
 -- ---- how many bytes a whole record has
 unfoldable pub eventExtent : Event → ℕ
 eventExtent (event.Send p q) = 5

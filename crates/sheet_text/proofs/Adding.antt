@@ -97,7 +97,7 @@ module _ (m : Mem) (c : Config) (shown : Shows m c) (number : ℕ) where
       ∙ rw (one-line (λ i. closingLine m number (n + n + i)), at-e))
 
 -- ---- bytes
-less-one : (k b : ℕ) (bs : List ℕ) → 0 < k → drop (k - 1) bs ≡ drop k (b ∷ bs)
+pub less-one : (k b : ℕ) (bs : List ℕ) → 0 < k → drop (k - 1) bs ≡ drop k (b ∷ bs)
 less-one zero b bs l = absurd (omega arith)
 less-one (suc k) b bs l = let e : suc k - 1 ≡ k = omega arith in rw e
 

@@ -3,6 +3,7 @@
 pub mod Adding
 pub mod Blind
 pub mod AllExamples
+pub mod Progress
 pub mod Pacing
 pub mod Shifting
 pub mod Writing

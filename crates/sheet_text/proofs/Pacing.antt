@@ -2,17 +2,20 @@
 use Prim.Native.Nat.{ℕ, zero, suc, _+_, _-_, _≤_, _<_}
 use native.Mathlib.Omega.{arith}
 use mathlib.Core.Path.{_≡_, refl, sym, ap, _∙_}
-use mathlib.Core.Bool.{Bool, true, false}
+use mathlib.Core.Bool.{Bool, true, false, cond}
 use mathlib.Core.List.{List, [], _∷_, _++_, append-assoc, append-nil}
 use borrow.Author.Tests.{lt-ltb, le-ltb}
-use lib.ListN.{length, take, drop, length-drop}
-use lib.Seq.{drop-drop}
+use lib.Dec.{ltb}
+use lib.ListN.{length, getD, take, drop, length-drop}
+use lib.Seq.{drop-drop, getD-drop}
 use Rattle.words.specs.declared.Standing.{Standing}
 use Rattle.words.specs.Layout.{Mem, Head, get, EVENTS}
 use Rattle.words.specs.Spelled.{controlOf, people}
 use Rattle.words.specs.Calls.{standingOf}
 use Rattle.records.specs.declared.Place.{Place}
+use Rattle.records.specs.Records.{longest}
 use Rattle.records.proofs.Rest.{rest}
+use Rattle.records.proofs.Short.{cut-short}
 use Rattle.records.proofs.Stored.{sets-over}
 use Rattle.trace.specs.declared.Ending.{Ending}
 use Rattle.trace.specs.declared.Told.{Told}
@@ -21,7 +24,7 @@ use Rattle.trace.specs.declared.Turn.the-variants.{More, Goes, Ends}
 use Rattle.trace.specs.Outcome.{endingNumber, atEnd}
 use Rattle.trace.specs.Turns.{turn, turned}
 use Rattle.trace.proofs.Looping.{goes-within}
-use Rattle.trace.proofs.Pausing.{no-bytes, more-kept}
+use Rattle.trace.proofs.Pausing.{no-bytes, more-cut, more-kept}
 use Rattle.sheet_text.specs.declared.Stand.{Stand}
 use Rattle.sheet_text.specs.declared.Stand.the-variants.{Reads, Closes}
 use Rattle.sheet_text.specs.declared.Wants.{Wants}
@@ -68,7 +71,7 @@ module _ (last : Bool) (room : ℕ) (pl : Place) (m : Mem) where
   full-is [] l = rw (lt-ltb room lineRoom l)
   full-is (b ∷ bs) l = rw (lt-ltb room lineRoom l)
 
-  turn-is : (w : List ℕ) → lineRoom ≤ room
+  pub turn-is : (w : List ℕ) → lineRoom ≤ room
       → follow last room 0 pl m w
       ≡ onTurn last pl (turned pl m w) (turn pl (controlOf m) w) (λ k place y. follow last (room - length (toldText y)) 0 place (turned pl m w) (drop k w))
   unfolding follow onTurn
@@ -84,10 +87,25 @@ module _ (last : Bool) (room : ℕ) (pl : Place) (m : Mem) where
 answered : ℕ → ℕ → Stand → Wants → Piece
 answered u n s v = record { used = u; written = n; stand = s; wants = v }
 
+-- only a piece that waits for input has to say how little is left
+unfoldable input : Wants → ℕ
+input wants.Input = 1
+input wants.Room = 0
+input wants.Nothing = 0
+
+not-room : wants.Room ≡ wants.Input → ⊥
+unfolding input
+not-room e = let q = ap input e in omega arith
+
+not-nothing : wants.Nothing ≡ wants.Input → ⊥
+unfolding input
+not-nothing e = let q = ap input e in omega arith
+
 came : {x : Part} {w out₀ out : List ℕ} {used written : ℕ} {s : Stand} {m : Mem} {v : Wants} (text : List ℕ) → used ≤ length w → written ≤ length out
-    → Wrote out₀ out 0 written text → x ≡ adds used text (rests s m v) → Came x w out₀ (record { used = used; written = written; stand = s; wants = v }) m out
+    → Wrote out₀ out 0 written text → (v ≡ wants.Input → length w < used + longest) → x ≡ adds used text (rests s m v)
+    → Came x w out₀ (record { used = used; written = written; stand = s; wants = v }) m out
 unfolding adds rests said answered
-came {x} {w} {out₀} {out} {used} {written} {s} {m} {v} text l room wrote e =
+came {x} {w} {out₀} {out} {used} {written} {s} {m} {v} text l room wrote few e =
     let long = wrote-length wrote in
     let place : length text ≡ written = omega (arith, wrote .place) in
     let plus : used + 0 ≡ used = omega arith in
@@ -98,6 +116,7 @@ came {x} {w} {out₀} {out} {used} {written} {s} {m} {v} text l room wrote e =
       text = rw (e, append-nil text) (wrote .bytes ∙ sets-over text out₀ (omega arith));
       within = l;
       room = omega arith;
+      short = few;
     }
 
 -- ---- the loop that reads: x is the whole piece, and the rest of it is a piece from here on
@@ -113,7 +132,7 @@ module _ (last : Bool) (x : Part) (out₀ w : List ℕ) where
     pub full-came : Gone pl m out used written → length out - written < lineRoom
         → Came x w out₀ (record { used = used; written = written; stand = Reads pl; wants = wants.Room }) m out
     full-came h l =
-        came (h .text) (h .within) (h .room) (h .wrote)
+        came (h .text) (h .within) (h .room) (h .wrote) (λ e. absurd (not-room e))
         (h .part
         ∙ ap (adds used (h .text)) (full-is last (length out₀ - written) pl m (drop used w) (let long = wrote-length (h .wrote) in omega arith)))
 
@@ -159,17 +178,20 @@ module _ (last : Bool) (x : Part) (out₀ w : List ℕ) where
       pub ends-came : {y : Ending} {n : ℕ} → Turned → t ≡ Ends y → n ≡ endingNumber y
           → Came x w out₀ (record { used = used; written = written; stand = Closes n 0; wants = wants.Room }) m′ out
       unfolding onTurn
-      ends-came {y} c e q = rw q (came (c .so .text) (c .so .within) (c .so .room) (c .so .wrote) (decides c (Ends y) e))
+      ends-came {y} c e q = rw q (came (c .so .text) (c .so .within) (c .so .room) (c .so .wrote) (λ i. absurd (not-room i)) (decides c (Ends y) e))
 
-      pub more-came : Turned → t ≡ More → last ≡ false
+      pub more-came : ((i : ℕ) → getD w i 0 < 256) → Turned → t ≡ More → last ≡ false
           → Came x w out₀ (record { used = used; written = written; stand = Reads pl; wants = wants.Input }) m′ out
       unfolding onTurn waits
-      more-came c e q = came (c .so .text) (c .so .within) (c .so .room) (c .so .wrote) (decides c More e ∙ rw q)
+      more-came bytes c e q =
+          let cut = more-cut pl (controlOf m) (drop used w) (sym (c .answer) ∙ e) in
+          let few = cut-short pl (drop used w) (rw (getD-drop used w 3 0) (bytes (used + 3))) cut in
+          came (c .so .text) (c .so .within) (c .so .room) (c .so .wrote) (λ i. omega (arith, few, length-drop used w)) (decides c More e ∙ rw q)
 
       pub last-came : {n : ℕ} {y : Ending} → Turned → t ≡ More → last ≡ true → y ≡ atEnd pl → n ≡ endingNumber y
           → Came x w out₀ (record { used = used; written = written; stand = Closes n 0; wants = wants.Room }) m′ out
       unfolding onTurn waits
-      last-came c e q a b = rw (b, a) (came (c .so .text) (c .so .within) (c .so .room) (c .so .wrote) (decides c More e ∙ rw q))
+      last-came c e q a b = rw (b, a) (came (c .so .text) (c .so .within) (c .so .room) (c .so .wrote) (λ i. absurd (not-room i)) (decides c More e ∙ rw q))
 
 pub none-gone : (last : Bool) (out w : List ℕ) (pl : Place) (m : Mem) → Gone last (follow last (length out) 0 pl m w) out w pl m out 0 0
 none-gone last out w pl m =
@@ -203,7 +225,7 @@ module _ (x : Part) (out₀ : List ℕ) (m : Mem) (number : ℕ) where
     unfolding closing
     all-came l =
         let e : closingCount m - k ≡ 0 = omega arith in
-        came (h .text) (omega arith) (h .room) (h .wrote) (h .part ∙ rw e)
+        came (h .text) (omega arith) (h .room) (h .wrote) (λ i. absurd (not-nothing i)) (h .part ∙ rw e)
 
     -- a line is left
     one-left : k < closingCount m → closingCount m - k ≡ suc (closingCount m - (k + 1))
@@ -214,7 +236,7 @@ module _ (x : Part) (out₀ : List ℕ) (m : Mem) (number : ℕ) where
     unfolding closing
     short-came l short =
         let long = wrote-length (h .wrote) in
-        came (h .text) (omega arith) (h .room) (h .wrote)
+        came (h .text) (omega arith) (h .room) (h .wrote) (λ e. absurd (not-room e))
         (h .part ∙ rw (one-left l, lt-ltb (length out₀ - written) lineRoom (omega arith)))
 
     pub line-on : {out′ : List ℕ} {written′ : ℕ} → k < closingCount m → lineRoom ≤ length out - written
@@ -238,6 +260,28 @@ none-shut out m number k =
     let e : length out - 0 ≡ length out = omega arith in
     record { room = omega arith; text = []; wrote = wrote-none; part = rw e (adds-none (closing (length out) (closingCount m - k) number k m)) }
 
--- it uses no byte of a window
-pub any-window : {x : Part} {w out : List ℕ} {p : Piece} {m out′ : List ℕ} → Came x [] out p m out′ → Came x w out p m out′
-any-window h = record { says = h .says; words = h .words; text = h .text; within = omega (arith, h .within); room = h .room }
+-- it uses no byte of a window, and never waits for input
+closing-other : (j room number k : ℕ) (m : Mem) → closing room j number k m .wants ≡ wants.Input → ⊥
+unfolding closing rests adds
+closing-other zero room number k m = not-nothing
+closing-other (suc j) room number k m = go (ltb room lineRoom) (closing-other j (room - length (closingLine m number k)) number (k + 1) m)
+  where
+    go : (b : Bool) → (closing (room - length (closingLine m number k)) j number (k + 1) m .wants ≡ wants.Input → ⊥)
+        → cond b (rests (Closes number k) m wants.Room)
+        (adds 0 (closingLine m number k) (closing (room - length (closingLine m number k)) j number (k + 1) m)) .wants ≡ wants.Input
+        → ⊥
+    go true h = not-room
+    go false h = h
+
+pub any-window : {w out : List ℕ} {p : Piece} {m′ out′ : List ℕ} (j room number k : ℕ) (m : Mem) → Came (closing room j number k m) [] out p m′ out′
+    → Came (closing room j number k m) w out p m′ out′
+unfolding said
+any-window j room number k m h =
+    record {
+      says = h .says;
+      words = h .words;
+      text = h .text;
+      within = omega (arith, h .within);
+      room = h .room;
+      short = λ e. absurd (closing-other j room number k m (sym (ap (λ (x : Piece). x .wants) (h .says)) ∙ e));
+    }

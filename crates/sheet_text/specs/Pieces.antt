@@ -1,6 +1,6 @@
 -- A piece of the sheet: what is written of it where it stands, from the bytes of the trace that are at hand and with the room that there is.
 -- It goes by what the words of a memory spell. Assumes nothing.
-use Prim.Native.Nat.{ℕ, zero, suc, _+_, _-_, _≤_}
+use Prim.Native.Nat.{ℕ, zero, suc, _+_, _-_, _≤_, _<_}
 use mathlib.Core.Path.{_≡_}
 use mathlib.Core.Bool.{Bool, true, false, cond}
 use mathlib.Core.List.{List, [], _∷_, _++_}
@@ -10,6 +10,7 @@ use Rattle.words.specs.Layout.{Mem, Head, get, EVENTS}
 use Rattle.words.specs.Spelled.{controlOf, people}
 use Rattle.words.specs.Calls.{standingOf}
 use Rattle.records.specs.declared.Place.{Place}
+use Rattle.records.specs.Records.{longest}
 use Rattle.records.specs.Stored.{over}
 use Rattle.trace.specs.declared.Told.{Told}
 use Rattle.trace.specs.declared.Told.the-variants.{Nothing, Heard}
@@ -101,3 +102,5 @@ pub record Came (x : Part) (w out : List ℕ) (p : Piece) (m out′ : List ℕ) 
   pub text : out′ ≡ over (x .text) out
   pub within : p .used ≤ length w
   pub room : p .written ≤ length out
+  -- what is left of the window where more of the trace is waited for
+  pub short : p .wants ≡ wants.Input → length w < p .used + longest

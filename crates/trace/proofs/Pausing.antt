@@ -50,17 +50,21 @@ judged-not v k next y x = go (accepted v)
     go true = goes-not refl
     go false = ends-not refl
 
--- and the memory stays as it was
-pub more-kept : (pl : Place) (c : Control) (m : Mem) (w : List ℕ) → turn pl c w ≡ More → turned pl m w ≡ m
-unfolding turn turned turnOn wordsOn onOpening onAnswer
-more-kept pl c m w = go (parse pl w)
+pub more-cut : (pl : Place) (c : Control) (w : List ℕ) → turn pl c w ≡ More → parse pl w ≡ Cut
+unfolding turn turnOn onOpening onAnswer
+more-cut pl c w = go (parse pl w)
   where
-    go : (r : Record) → turnOn c w r ≡ More → wordsOn m w r ≡ m
+    go : (r : Record) → turnOn c w r ≡ More → r ≡ Cut
     go (Opening n) e = absurd (judged-not _ _ _ _ _ e)
     go (Happens v) e = absurd (judged-not _ _ _ _ _ e)
-    go End e = refl
-    go (Wrong f) e = refl
+    go End e = absurd (goes-not refl e)
+    go (Wrong f) e = absurd (ends-not refl e)
     go Cut e = refl
+
+-- and the memory stays as it was
+pub more-kept : (pl : Place) (c : Control) (m : Mem) (w : List ℕ) → turn pl c w ≡ More → turned pl m w ≡ m
+unfolding turned wordsOn
+more-kept pl c m w e = rw (more-cut pl c w e)
 
 -- ---- bytes that follow a whole record
 module _ (w more : List ℕ) where

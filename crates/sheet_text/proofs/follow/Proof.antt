@@ -68,7 +68,7 @@ returns-3 : tie.Need-returns-3 Inv-loop μ-loop
 returns-3 c =
     let r = c .before .before .before in
     let h = took _ _ _ _ _ _ _ _ _ _ _ (r .before .before .before .before .loop .inv) (r .before .before .before .if1 .left) (r .one-record .ensures .0) in
-    more-came _ _ _ _ _ _ _ _ _ _ _ h (c .before .enum-told .given .1) (c .if2 .left)
+    more-came _ _ _ _ _ _ _ _ _ _ _ (λ i. omega (arith, c .before .before .before .before .before .before .before .before .before .shared-slice-known .given i)) h (c .before .enum-told .given .1) (c .if2 .left)
 
 enum-known-t : tie.Need-enum-known-t Inv-loop μ-loop
 enum-known-t c = search needs
