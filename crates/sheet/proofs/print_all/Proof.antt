@@ -1,0 +1,90 @@
+-- `print_all` writes piece after piece; each brings it nearer to the end of the window.
+-- Assumes nothing.
+use Prim.Native.Nat.{_≤_}
+use native.Mathlib.Omega.{arith}
+use mathlib.Core.Path.{_≡_, refl, _∙_}
+use lib.ListN.{length, drop}
+use Rattle.sheet_text.specs.Claims.{ahead}
+use Rattle.sheet.proofs.Printing.{within, short, nearer, not-input}
+use borrow.Author.Needs.{needs}
+use Rattle.sheet.proofs.print_all.Statement.{statement}
+use Rattle.sheet.proofs.print_all.Tie as tie
+
+abbrev Inv-loop : tie.InvT-loop
+Inv-loop run₀ window last out₀ used₀ here₀ run out used here = (used ≤ length window) × (length out ≡ length out₀)
+
+abbrev μ-loop : tie.MeasureT-loop
+μ-loop run₀ window last out₀ used₀ here₀ run out used here = ahead here run (drop used window)
+
+loop-holds : tie.Need-loop-holds Inv-loop μ-loop
+loop-holds c = (omega arith, refl)
+
+sub-print : tie.Need-sub-print Inv-loop μ-loop
+sub-print c = search needs
+
+part-print-start : tie.Need-part-print-start Inv-loop μ-loop
+part-print-start c = search needs
+
+part-print-end : tie.Need-part-print-end Inv-loop μ-loop
+part-print-end c = search needs
+
+print-requires : tie.Need-print-requires Inv-loop μ-loop
+print-requires c κs = search needs
+
+add-used : tie.Need-add-used Inv-loop μ-loop
+add-used c = let far = within (c .before .before .before .before .before .before .before .before .before .before .args .window .now) (c .before .before .before .before .before .before .before .loop .used) _ (c .before .before .before .before .before .before .before .loop .inv .0) (c .before .before .before .print .ensures .0) in omega arith
+
+enum-told : tie.Need-enum-told Inv-loop μ-loop
+enum-told c = search needs
+
+loop-less : tie.Need-loop-less Inv-loop μ-loop
+loop-less c =
+    let l = c .before .before .before .before .before .before .before .before .before .loop in
+    let p = c .before .before .before .before .before .print in
+    nearer (c .before .before .before .before .before .before .before .before .before .before .before .before .args .window .now) (l .used) (p .result .used) (l .inv .0) (l .here) (p .result .stand) (l .run) (p .last .0) (p .ensures .2 (c .enum-told .given .1))
+
+loop-again : tie.Need-loop-again Inv-loop μ-loop
+loop-again c = (within (c .before .before .before .before .before .before .before .before .before .before .before .before .args .window .now) (c .before .before .before .before .before .before .before .before .before .loop .used) _ (c .before .before .before .before .before .before .before .before .before .loop .inv .0) (c .before .before .before .before .before .print .ensures .0), c .before .before .before .before .before .print .kept .1 .1 .1 .1 .0 ∙ c .before .before .before .before .before .before .before .before .before .loop .inv .1)
+
+enum-told-2 : tie.Need-enum-told-2 Inv-loop μ-loop
+enum-told-2 c = search needs
+
+same-length : tie.Need-same-length Inv-loop μ-loop
+same-length c = c .before .before .before .before .before .print .kept .1 .1 .1 .1 .0 ∙ c .before .before .before .before .before .before .before .before .before .loop .inv .1
+
+returns : tie.Need-returns Inv-loop μ-loop
+returns c = (
+  within (c .before .before .before .before .before .before .before .before .before .before .before .before .args .window .now) (c .before .before .before .before .before .before .before .before .before .loop .used) _ (c .before .before .before .before .before .before .before .before .before .loop .inv .0) (c .before .before .before .before .before .print .ensures .0),
+  λ i. short (c .before .before .before .before .before .before .before .before .before .before .before .before .args .window .now) (c .before .before .before .before .before .before .before .before .before .loop .used) _ (c .before .before .before .before .before .before .before .before .before .loop .inv .0) (c .before .before .before .before .before .print .ensures .1 (c .enum-told2 .given .1)),
+)
+
+enum-told-3 : tie.Need-enum-told-3 Inv-loop μ-loop
+enum-told-3 c = search needs
+
+same-length-2 : tie.Need-same-length-2 Inv-loop μ-loop
+same-length-2 c = c .before .before .before .before .before .print .kept .1 .1 .1 .1 .0 ∙ c .before .before .before .before .before .before .before .before .before .loop .inv .1
+
+returns-2 : tie.Need-returns-2 Inv-loop μ-loop
+returns-2 c = not-input (c .before .before .before .before .before .before .before .before .before .before .before .before .args .window .now) _ (within (c .before .before .before .before .before .before .before .before .before .before .before .before .args .window .now) (c .before .before .before .before .before .before .before .before .before .loop .used) _ (c .before .before .before .before .before .before .before .before .before .loop .inv .0) (c .before .before .before .before .before .print .ensures .0))
+
+pub print-all-spec : {M : Type 1} → statement M
+print-all-spec =
+    tie.close
+    (tie.spec
+    Inv-loop
+    μ-loop
+    loop-holds
+    sub-print
+    part-print-start
+    part-print-end
+    print-requires
+    add-used
+    enum-told
+    loop-less
+    loop-again
+    enum-told-2
+    same-length
+    returns
+    enum-told-3
+    same-length-2
+    returns-2)
