@@ -1,6 +1,6 @@
--- Start at Adding: the pieces of a sheet add up to it. Blind is what the line carrier may rely on. Below them stand the examples, and what the
+-- Start at Whole: the pieces of a sheet add up to it. Blind is what the line carrier may rely on. Below them stand the examples, and what the
 -- functions rest on.
-pub mod Adding
+pub mod Whole
 pub mod Blind
 pub mod AllExamples
 pub mod Progress

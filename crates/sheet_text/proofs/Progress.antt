@@ -27,7 +27,7 @@ use Rattle.sheet_text.specs.declared.Wants.the-variants as wants
 use Rattle.sheet_text.specs.Pieces.{lineRoom, Part, rests, adds, toldText, waits, onTurn, follow, closingLine, closingCount, closing, piece}
 use Rattle.sheet_text.specs.Claims.{ahead}
 use Rattle.sheet_text.proofs.Pacing.{turn-is}
-use Rattle.sheet_text.proofs.Adding.{less-one}
+use Rattle.sheet_text.proofs.Whole.{less-one}
 
 abbrev mostLines : ℕ
 mostLines = mostProcesses + mostProcesses + 1
