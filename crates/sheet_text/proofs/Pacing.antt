@@ -13,17 +13,21 @@ use Rattle.words.specs.Layout.{Mem, Head, get, EVENTS}
 use Rattle.words.specs.Spelled.{controlOf, people}
 use Rattle.words.specs.Calls.{standingOf}
 use Rattle.records.specs.declared.Place.{Place}
+use Rattle.records.specs.declared.Place.the-variants.{First, Later, Behind}
 use Rattle.records.specs.Records.{longest}
 use Rattle.records.proofs.Rest.{rest}
 use Rattle.records.proofs.Short.{cut-short}
 use Rattle.records.proofs.Stored.{sets-over}
 use Rattle.trace.specs.declared.Ending.{Ending}
 use Rattle.trace.specs.declared.Told.{Told}
+use Rattle.trace.specs.declared.Told.the-variants.{Nothing}
 use Rattle.trace.specs.declared.Turn.{Turn}
 use Rattle.trace.specs.declared.Turn.the-variants.{More, Goes, Ends}
 use Rattle.trace.specs.Outcome.{endingNumber, atEnd}
 use Rattle.trace.specs.Turns.{turn, turned}
+use Rattle.trace.specs.Haste.{swiftExtent, stays, haste}
 use Rattle.trace.proofs.Looping.{goes-within}
+use Rattle.trace.proofs.Hastening.{haste-kept, haste-within}
 use Rattle.trace.proofs.Pausing.{no-bytes, more-cut, more-kept}
 use Rattle.sheet_text.specs.declared.Stand.{Stand}
 use Rattle.sheet_text.specs.declared.Stand.the-variants.{Reads, Closes}
@@ -83,6 +87,14 @@ module _ (last : Bool) (room : ℕ) (pl : Place) (m : Mem) where
       (on-same last pl (turned pl m (b ∷ bs)) (turn pl (controlOf m) (b ∷ bs)) _ _
       (λ k place y e. next-drop last (room - length (toldText y)) k place (turned pl m (b ∷ bs)) b bs (goes-within pl (controlOf m) (b ∷ bs) e .0)))
 
+  -- where nothing is told, the room stays
+  nothing-told : (w : List ℕ) → turn Later (controlOf m) w ≡ Goes swiftExtent Later Nothing
+      → onTurn last Later (turned Later m w) (turn Later (controlOf m) w)
+      (λ k place y. follow last (room - length (toldText y)) 0 place (turned Later m w) (drop k w))
+      ≡ adds swiftExtent [] (follow last room 0 Later (turned Later m w) (drop swiftExtent w))
+  unfolding onTurn toldText
+  nothing-told w e = let same : room - 0 ≡ room = omega arith in rw (e, same)
+
 -- ---- what a piece comes to
 answered : ℕ → ℕ → Stand → Wants → Piece
 answered u n s v = record { used = u; written = n; stand = s; wants = v }
@@ -119,6 +131,27 @@ came {x} {w} {out₀} {out} {used} {written} {s} {m} {v} text l room wrote few e
       short = few;
     }
 
+-- ---- sends and receives taken all at once: the rest of a piece is a piece behind them
+haste-part : (last : Bool) (x : Part) (text : List ℕ) (room : ℕ) → lineRoom ≤ room → (w : List ℕ) (used : ℕ) (pl : Place) (m : Mem)
+    → x ≡ adds used text (follow last room 0 pl m (drop used w))
+    → x ≡ adds (used + haste pl m (drop used w) .used) text
+    (follow last room 0 pl (haste pl m (drop used w) .words) (drop (used + haste pl m (drop used w) .used) w))
+unfolding haste stays
+haste-part last x text room wide w used First m e = let none : used + 0 ≡ used = omega arith in rw none e
+haste-part last x text room wide w used Behind m e = let none : used + 0 ≡ used = omega arith in rw none e
+haste-part last x text room wide w used Later m e =
+    rw (← drop-drop (haste Later m (drop used w) .used) used w)
+    (haste-kept (λ u n v. x ≡ adds u text (follow last room 0 Later n v)) swift-part used m (drop used w) e)
+  where
+    swift-part : (u : ℕ) (n : Mem) (v : List ℕ) → turn Later (controlOf n) v ≡ Goes swiftExtent Later Nothing → swiftExtent ≤ length v
+        → x ≡ adds u text (follow last room 0 Later n v)
+        → x ≡ adds (u + swiftExtent) text (follow last room 0 Later (turned Later n v) (drop swiftExtent v))
+    swift-part u n v t l h =
+        h
+        ∙ ap (adds u text) (turn-is last room Later n v wide ∙ nothing-told last room Later n v t)
+        ∙ adds-adds u swiftExtent text [] _
+        ∙ rw (append-nil text)
+
 -- ---- the loop that reads: x is the whole piece, and the rest of it is a piece from here on
 module _ (last : Bool) (x : Part) (out₀ w : List ℕ) where
   pub record Gone (pl : Place) (m : Mem) (out : List ℕ) (used written : ℕ) : Type 0 where
@@ -135,6 +168,23 @@ module _ (last : Bool) (x : Part) (out₀ w : List ℕ) where
         came (h .text) (h .within) (h .room) (h .wrote) (λ e. absurd (not-room e))
         (h .part
         ∙ ap (adds used (h .text)) (full-is last (length out₀ - written) pl m (drop used w) (let long = wrote-length (h .wrote) in omega arith)))
+
+    -- sends and receives taken all at once, with room for a line
+    pub hastened : {m′ : Mem} {more : ℕ} → Gone pl m out used written → lineRoom ≤ length out - written
+        → (more ≡ haste pl m (take (length w - used) (drop used w)) .used) × (m′ ≡ haste pl m (take (length w - used) (drop used w)) .words)
+        → Gone pl m′ out (used + more) written
+    hastened h wide e =
+        let long = wrote-length (h .wrote) in
+        let far = haste-within pl m (drop used w) in
+        let n = rw rest at (e .0) in
+        let q = rw rest at (e .1) in
+        record {
+          within = omega (arith, h .within, far, n, length-drop used w);
+          room = h .room;
+          text = h .text;
+          wrote = h .wrote;
+          part = rw (n, q) (haste-part last x (h .text) (length out₀ - written) (omega (arith, wide, long)) w used pl m (h .part));
+        }
 
     -- a turn, with room for a line
     module _ (m′ : Mem) (t : Turn) where

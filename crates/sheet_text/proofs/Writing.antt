@@ -1,10 +1,10 @@
--- Text written into a buffer piece by piece, each piece behind the one before; and numbers in decimal, digit by digit. Assumes nothing.
+-- Text written into a buffer piece by piece, each piece behind the one before; and numbers in decimal, by their last digit or their last two. Assumes nothing.
 use Prim.Native.Nat.{ℕ, zero, suc, _+_, _/_, _%_, _≤_, _<_}
 use native.Mathlib.Nat.{add-zero}
 use native.Mathlib.Decide.{le-ind}
 use native.Mathlib.Omega.{arith}
 use mathlib.Core.Path.{_≡_, refl, sym, ap, _∙_}
-use mathlib.Core.List.{List, [], _∷_, _++_}
+use mathlib.Core.List.{List, [], _∷_, _++_, append-assoc}
 use lib.ListN.{length, set, length-append}
 use lib.Seq.{sets, length-sets}
 use Rattle.records.proofs.Stored.{sets-sets}
@@ -69,22 +69,44 @@ pub decimal-more : (n : ℕ) → 10 ≤ n → decimal n ≡ decimal (n / 10) ++ 
 unfolding decimal
 decimal-more n h = ap (λ (w : List ℕ). w ++ (glyph (n % 10) ∷ [])) (digits-enough n (n / 10) (omega arith) ∙ digits-some (n / 10) (omega arith))
 
--- the same for the writing; x is the digit that the code has
-module _ {l : List ℕ} {at : ℕ} (n x : ℕ) where
-  pub one-fits : n < 10 → Fits l at (decimal n) → Fits l at (x ∷ [])
-  one-fits h f = record { room = omega (arith, f .room, ap length (decimal-one n h)) }
+-- both digits of a number below a hundred
+abbrev two : ℕ → List ℕ
+two n = glyph (n / 10) ∷ glyph (n % 10) ∷ []
 
-  pub one-wrote : {l′ : List ℕ} {r : ℕ} → n < 10 → x ≡ glyph n → Wrote l l′ at r (x ∷ []) → Wrote l l′ at r (decimal n)
+-- two digits, or the last two behind those of the hundredth
+decimal-two : (n : ℕ) → 10 ≤ n → n < 100 → decimal n ≡ two n
+decimal-two n h g = rw (decimal-more n h, decimal-one (n / 10) (omega arith))
+
+decimal-hundreds : (n : ℕ) → 100 ≤ n → decimal n ≡ decimal (n / 100) ++ two (n % 100)
+decimal-hundreds n h =
+    let hundreds : n / 10 / 10 ≡ n / 100 = omega arith in
+    let tens : n / 10 % 10 ≡ n % 100 / 10 = omega arith in
+    let ones : n % 10 ≡ n % 100 % 10 = omega arith in
+    rw (decimal-more n (omega arith), decimal-more (n / 10) (omega arith), hundreds, tens, ones)
+    (append-assoc (decimal (n / 100)) (glyph (n % 100 / 10) ∷ []) (glyph (n % 100 % 10) ∷ []))
+
+-- the same for the writing; where there is one digit, x is the one that the code has
+module _ {l : List ℕ} {at : ℕ} (n : ℕ) where
+  pub one-fits : n < 10 → Fits l at (decimal n) → (x : ℕ) → Fits l at (x ∷ [])
+  one-fits h f x = record { room = omega (arith, f .room, ap length (decimal-one n h)) }
+
+  pub one-wrote : {x : ℕ} {l′ : List ℕ} {r : ℕ} → n < 10 → x ≡ glyph n → Wrote l l′ at r (x ∷ []) → Wrote l l′ at r (decimal n)
   one-wrote h e p = rw (decimal-one n h, ← e) p
 
-  pub head-fits : 10 ≤ n → Fits l at (decimal n) → Fits l at (decimal (n / 10))
-  head-fits h f = fits-first (decimal (n / 10)) _ (rw (decimal-more n h) at f)
+  pub two-fits : 10 ≤ n → n < 100 → Fits l at (decimal n) → Fits l at (two n)
+  two-fits h g f = rw (decimal-two n h g) at f
 
-  pub last-fits : {l′ : List ℕ} {r : ℕ} → 10 ≤ n → Fits l at (decimal n) → Wrote l l′ at r (decimal (n / 10)) → Fits l′ r (x ∷ [])
-  last-fits h f p = record { room = omega (arith, fits-rest (glyph (n % 10) ∷ []) (rw (decimal-more n h) at f) p .room) }
+  pub two-wrote : {l′ : List ℕ} {r : ℕ} → 10 ≤ n → n < 100 → Wrote l l′ at r (two n) → Wrote l l′ at r (decimal n)
+  two-wrote h g p = rw (decimal-two n h g) p
 
-  pub last-wrote : {l′ l″ : List ℕ} {r r′ : ℕ} → 10 ≤ n → x ≡ glyph (n % 10) → Wrote l l′ at r (decimal (n / 10)) → Wrote l′ l″ r r′ (x ∷ []) → Wrote l l″ at r′ (decimal n)
-  last-wrote h e p q = rw (decimal-more n h, ← e) (wrote-one p q)
+  pub head-fits : 100 ≤ n → Fits l at (decimal n) → Fits l at (decimal (n / 100))
+  head-fits h f = fits-first (decimal (n / 100)) _ (rw (decimal-hundreds n h) at f)
+
+  pub last-fits : {l′ : List ℕ} {r : ℕ} → 100 ≤ n → Fits l at (decimal n) → Wrote l l′ at r (decimal (n / 100)) → Fits l′ r (two (n % 100))
+  last-fits h f p = fits-rest (two (n % 100)) (rw (decimal-hundreds n h) at f) p
+
+  pub last-wrote : {l′ l″ : List ℕ} {r r′ : ℕ} → 100 ≤ n → Wrote l l′ at r (decimal (n / 100)) → Wrote l′ l″ r r′ (two (n % 100)) → Wrote l l″ at r′ (decimal n)
+  last-wrote h p q = rw (decimal-hundreds n h) (wrote-one p q)
 
 -- ---- a set: five bytes, as the code has their places
 pub set-stored : (l : List ℕ) (at s : ℕ) {a b c d : ℕ} → a ≡ glyph (s / 4096 % 16) → b ≡ glyph (s / 256 % 16) → c ≡ glyph (s / 16 % 16) → d ≡ glyph (s % 16)

@@ -86,6 +86,8 @@ fn follow(run: &mut [u32; RUN], place: Place, window: &[u8], last: bool, out: &m
                 wants: Wants::Room,
             };
         }
+        let swift = trace::hasten(&mut *run, &window[used..], here);
+        used += swift;
         let t = trace::one_record(&mut *run, &window[used..], here);
         match t {
             Turn::More => {

@@ -1,7 +1,7 @@
 // The lines of the sheet, written into a lent buffer from a place on. Each function answers the place behind what it wrote; there must be room for it.
 use voting::Choice;
 use words::Standing;
-ghost use Prim.Native.Nat.{_<_};
+ghost use Prim.Native.Nat.{_/_, _%_, _<_};
 ghost use mathlib.Core.Path.{_≡_};
 ghost use mathlib.Core.List.{[], _∷_};
 ghost use Rattle.sheet_text.specs.Text as Text;
@@ -27,7 +27,17 @@ fn glyph(d: u32) -> u8
     if d < 10 { 48 + d as u8 } else { 87 + d as u8 }
 }
 
-// A number in decimal without leading zeros.
+// Two digits of a number below a hundred, the first a zero where it has only one.
+fn put_two(out: &mut [u8], at: usize, n: u32) -> usize
+    requires { ⌜ (n < 100) × Fits (now out) at (Text.glyph (n / 10) ∷ Text.glyph (n % 10) ∷ []) ⌝ }
+    ensures { λ r. ⌜ Wrote (now (out .entry)) (now (out .exit)) at r (Text.glyph (n / 10) ∷ Text.glyph (n % 10) ∷ []) ⌝ }
+{
+    out[at] = glyph(n / 10);
+    out[at + 1] = glyph(n % 10);
+    at + 2
+}
+
+// A number in decimal without leading zeros, two digits at a time.
 fn put_decimal(out: &mut [u8], at: usize, n: u32) -> usize
     requires { ⌜ Fits (now out) at (Text.decimal n) ⌝ }
     ensures { λ r. ⌜ Wrote (now (out .entry)) (now (out .exit)) at r (Text.decimal n) ⌝ }
@@ -35,8 +45,11 @@ fn put_decimal(out: &mut [u8], at: usize, n: u32) -> usize
     if n < 10 {
         return put_byte(out, at, glyph(n));
     }
-    let last = put_decimal(out, at, n / 10);
-    put_byte(out, last, glyph(n % 10))
+    if n < 100 {
+        return put_two(out, at, n);
+    }
+    let last = put_decimal(out, at, n / 100);
+    put_two(out, last, n % 100)
 }
 
 fn put_field(out: &mut [u8], at: usize, n: u32) -> usize

@@ -4,5 +4,6 @@ pub mod AllExamples
 pub mod Turning
 pub mod Telling
 pub mod Pausing
+pub mod Hastening
 pub mod Looping
 pub mod Values

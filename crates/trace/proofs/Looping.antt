@@ -27,6 +27,8 @@ use Rattle.trace.specs.declared.Turn.{Turn}
 use Rattle.trace.specs.declared.Turn.the-variants.{More, Goes, Ends}
 use Rattle.trace.specs.Outcome.{atEnd, outcome}
 use Rattle.trace.specs.Turns.{onAnswer, onOpening, turnOn, turn, turned, traceWords}
+use Rattle.trace.specs.Haste.{haste}
+use Rattle.trace.proofs.Hastening.{haste-within, haste-ahead}
 use Rattle.trace.proofs.Turning.{Ahead, ahead, more-ahead, goes-ahead, ends-ahead, from-the-start}
 
 -- ---- an accepted record goes over a byte at least, and no further than the bytes
@@ -55,6 +57,18 @@ record-within c w Cut l = tt
 pub goes-within : {k : ℕ} {next : Place} {t : Told} (pl : Place) (c : Control) (w : List ℕ) → turn pl c w ≡ Goes k next t → (0 < k) × (k ≤ length w)
 unfolding turn Within
 goes-within pl c w e = subst (Within w) e (record-within c w (parse pl w) (extent-within pl w))
+
+-- ---- sends and receives taken all at once from a place of the trace on: m′ is the memory that they leave
+pub hastened : {m′ : Mem} {more : ℕ} (pl : Place) (m : Mem) (w : List ℕ) (at : ℕ) → (at ≤ length w) × (ahead pl m (drop at w) ≡ ahead First blank w)
+    → (more ≡ haste pl m (take (length w - at) (drop at w)) .used) × (m′ ≡ haste pl m (take (length w - at) (drop at w)) .words)
+    → (at + more ≤ length w) × (ahead pl m′ (drop (at + more) w) ≡ ahead First blank w)
+hastened pl m w at l e =
+    let used = rw rest at (e .0) in
+    let words = rw rest at (e .1) in
+    let far = haste-within pl m (drop at w) in (
+      omega (arith, l .0, far, used, length-drop at w),
+      rw (used, words, ← drop-drop (haste pl m (drop at w) .used) at w) (sym (haste-ahead pl m (drop at w)) ∙ l .1),
+    )
 
 -- ---- the turn at a place of the trace: its bytes are those from the place on, x is its answer, and m′ the memory that it leaves
 module _ (pl : Place) (m m′ : Mem) (w : List ℕ) (at : ℕ) (x : Turn) where

@@ -1,5 +1,6 @@
 -- The definitions: what the replay of a trace comes to on the abstract round machine, and what one record does to the words of a memory.
 pub mod Outcome
 pub mod Turns
+pub mod Haste
 pub mod Claims
 pub mod Examples

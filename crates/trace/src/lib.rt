@@ -17,6 +17,7 @@ ghost use Rattle.words.specs.Shows as Shows;
 ghost use Rattle.records.specs.Script as Script;
 ghost use Rattle.trace.specs.Outcome as Outcome;
 ghost use Rattle.trace.specs.Turns as Turns;
+ghost use Rattle.trace.specs.Haste as Haste;
 
 // What the replay of a trace ends with. Its number is that of document 01.
 pub enum Ending {
@@ -44,6 +45,13 @@ pub enum Turn {
 
 // The values of an opening record, at most: its N is one byte.
 const MOST_VALUES: usize = 255;
+
+// Tag and length of a send and of a receive, as one number, and the bytes of either.
+const SEND: u32 = 0x100002;
+
+const RECEIVE: u32 = 0x110002;
+
+const SWIFT: usize = 5;
 
 // The number that document 01 gives an ending.
 pub fn number(e: Ending) -> u32
@@ -181,6 +189,58 @@ pub fn one_record(run: &mut [u32; RUN], bytes: &[u8], place: Place) -> Turn
     }
 }
 
+// The tag and the length of a record as one number.
+fn head(bytes: &[u8]) -> u32
+    ensures { λ r. ⌜ r ≡ getD (now (bytes .entry)) 0 0 * 65536 + getD (now (bytes .entry)) 1 0 * 256 + getD (now (bytes .entry)) 2 0 ⌝ }
+{
+    byte(bytes, 0) * 65536 + byte(bytes, 1) * 256 + byte(bytes, 2)
+}
+
+// The send or the receive that stands whole at the head of the bytes: whether there is one, and it is accepted.
+fn swift(run: &mut [u32; RUN], bytes: &[u8]) -> bool
+    ensures { λ r. ⌜ (r ≡ Haste.goes (controlOf (now (run .entry))) (Haste.swift (now (bytes .entry))))
+        × (now (run .exit) ≡ Haste.left (now (run .entry)) (Haste.swift (now (bytes .entry)))) ⌝ }
+{
+    if bytes.len() < SWIFT {
+        return false;
+    }
+    let h = head(bytes);
+    if h == SEND {
+        let v = machine::send(run, bytes[3], bytes[4]);
+        return rounds::number(v) == 0;
+    }
+    if h == RECEIVE {
+        let v = machine::receive(run, bytes[3], bytes[4]);
+        return rounds::number(v) == 0;
+    }
+    false
+}
+
+// As many of them as are accepted one after the other.
+fn swiftly(run: &mut [u32; RUN], bytes: &[u8]) -> usize
+    ensures { λ r. ⌜ (r ≡ Haste.hasteBehind 0 (now (run .entry)) (now (bytes .entry)) .used)
+        × (now (run .exit) ≡ Haste.hasteBehind 0 (now (run .entry)) (now (bytes .entry)) .words) ⌝ }
+{
+    let mut at: usize = 0;
+    while swift(&mut *run, &bytes[at..]) {
+        at += SWIFT;
+    }
+    at
+}
+
+// Sends and receives are most of a trace, and tell nothing: those that stand at the head of the bytes and are accepted, all at once. Answers how many
+// bytes they are; what is done of them is what `one_record` does of each.
+pub fn hasten(run: &mut [u32; RUN], bytes: &[u8], place: Place) -> usize
+    ensures { λ r. ⌜ (r ≡ Haste.haste place (now (run .entry)) (now (bytes .entry)) .used)
+        × (now (run .exit) ≡ Haste.haste place (now (run .entry)) (now (bytes .entry)) .words) ⌝ }
+{
+    match place {
+        Place::First => 0,
+        Place::Later => swiftly(run, bytes),
+        Place::Behind => 0,
+    }
+}
+
 // A whole trace, from its opening to its end or to the first refusal. What was accepted before a refusal stands; without an accepted opening no run is there.
 pub fn replay(run: &mut [u32; RUN], trace: &[u8]) -> Ending
     ensures exact { λ r. ⌜ (r ≡ Outcome.outcome (now (trace .entry)) .ending) × (now (run .exit) ≡ Turns.traceWords (now (trace .entry))) ⌝ }
@@ -190,6 +250,8 @@ pub fn replay(run: &mut [u32; RUN], trace: &[u8]) -> Ending
     let mut at: usize = 0;
     let mut place = Place::First;
     loop {
+        let more = hasten(&mut *run, &trace[at..], place);
+        at += more;
         let t = one_record(&mut *run, &trace[at..], place);
         match t {
             Turn::More => {

@@ -1,17 +1,14 @@
--- `follow` takes a turn for each record; before each, the piece is what is written so far and a piece from there on.
+-- `follow` takes a turn for each record, sends and receives all at once; before each, the piece is what is written so far and a piece from there on.
 -- Assumes nothing.
 use Prim.Native.Nat.{_-_}
 use native.Mathlib.Omega.{arith}
 use lib.ListN.{length}
 use Rattle.sheet_text.specs.Pieces as Pieces
 use Rattle.sheet_text.proofs.Writing.{wrote-length}
-use Rattle.sheet_text.proofs.Pacing.{Gone, none-gone, full-came, took, goes-far, goes-on, ends-came, more-came, last-came}
+use Rattle.sheet_text.proofs.Pacing.{Gone, none-gone, full-came, hastened, took, goes-far, goes-on, ends-came, more-came, last-came}
 use borrow.Author.Needs.{needs}
 use Rattle.sheet_text.proofs.follow.Statement.{statement}
 use Rattle.sheet_text.proofs.follow.Tie as tie
-
--- `follow` takes a turn for each record; before each, the piece is what is written so far and a piece from there on.
--- Assumes nothing.
 
 abbrev Inv-loop : tie.InvT-loop
 Inv-loop run₀ window last out₀ used₀ written₀ here₀ run out used written here = Gone last (Pieces.follow last (length out₀) 0 here₀ run₀ window) out₀ window here run out used written
@@ -31,11 +28,36 @@ same-length c = wrote-length (c .before .loop .inv .wrote)
 returns : tie.Need-returns Inv-loop μ-loop
 returns c = full-came _ _ _ _ _ _ _ _ _ (c .before .loop .inv) (c .if1 .taken)
 
+sub-hasten : tie.Need-sub-hasten Inv-loop μ-loop
+sub-hasten c = c .before .before .loop .inv .within
+
+part-hasten-start : tie.Need-part-hasten-start Inv-loop μ-loop
+part-hasten-start c = search needs
+
+part-hasten-end : tie.Need-part-hasten-end Inv-loop μ-loop
+part-hasten-end c = search needs
+
+hasten-requires : tie.Need-hasten-requires Inv-loop μ-loop
+hasten-requires c κs = search needs
+
+add-used : tie.Need-add-used Inv-loop μ-loop
+add-used c =
+    let l = c .before .before .before .before .loop in
+    let so = hastened _ _ _ _ _ _ _ _ _ (l .inv) (c .before .before .before .if1 .left) (c .hasten .ensures) in
+    let far = so .within in
+    omega arith
+
 sub-one-record : tie.Need-sub-one-record Inv-loop μ-loop
-sub-one-record c = c .before .before .loop .inv .within
+sub-one-record c =
+    let l = c .before .before .before .before .before .loop in
+    let so = hastened _ _ _ _ _ _ _ _ _ (l .inv) (c .before .before .before .before .if1 .left) (c .before .hasten .ensures) in
+    so .within
 
 part-one-record-start : tie.Need-part-one-record-start Inv-loop μ-loop
-part-one-record-start c = search needs
+part-one-record-start c =
+    let l = c .before .before .before .before .before .loop in
+    let so = hastened _ _ _ _ _ _ _ _ _ (l .inv) (c .before .before .before .before .if1 .left) (c .before .hasten .ensures) in
+    omega (arith, so .within)
 
 part-one-record-end : tie.Need-part-one-record-end Inv-loop μ-loop
 part-one-record-end c = search needs
@@ -53,22 +75,24 @@ number-requires : tie.Need-number-requires Inv-loop μ-loop
 number-requires c κs = search needs
 
 same-length-2 : tie.Need-same-length-2 Inv-loop μ-loop
-same-length-2 c = wrote-length (c .before .before .before .before .before .before .before .before .before .loop .inv .wrote)
+same-length-2 c = wrote-length (c .before .before .before .before .before .before .before .before .before .before .before .before .loop .inv .wrote)
 
 returns-2 : tie.Need-returns-2 Inv-loop μ-loop
 returns-2 c =
-    let r = c .before .before .before .before .before in
-    let h = took _ _ _ _ _ _ _ _ _ _ _ (r .before .before .before .before .loop .inv) (r .before .before .before .if1 .left) (r .one-record .ensures .0) in
+    let l = c .before .before .before .before .before .before .before .before .before .before .before .before .loop in
+    let so = hastened _ _ _ _ _ _ _ _ _ (l .inv) (c .before .before .before .before .before .before .before .before .before .before .before .if1 .left) (c .before .before .before .before .before .before .before .before .hasten .ensures) in
+    let h = took _ _ _ _ _ _ _ _ _ _ _ so (c .before .before .before .before .before .before .before .before .before .before .before .if1 .left) (c .before .before .before .before .before .one-record .ensures .0) in
     last-came _ _ _ _ _ _ _ _ _ _ _ h (c .before .before .before .enum-told .given .1) (c .before .before .if2 .taken) (c .before .at-end .ensures) (c .number .ensures)
 
 same-length-3 : tie.Need-same-length-3 Inv-loop μ-loop
-same-length-3 c = wrote-length (c .before .before .before .before .before .before .before .loop .inv .wrote)
+same-length-3 c = wrote-length (c .before .before .before .before .before .before .before .before .before .before .loop .inv .wrote)
 
 returns-3 : tie.Need-returns-3 Inv-loop μ-loop
 returns-3 c =
-    let r = c .before .before .before in
-    let h = took _ _ _ _ _ _ _ _ _ _ _ (r .before .before .before .before .loop .inv) (r .before .before .before .if1 .left) (r .one-record .ensures .0) in
-    more-came _ _ _ _ _ _ _ _ _ _ _ (λ i. omega (arith, c .before .before .before .before .before .before .before .before .before .shared-slice-known .given i)) h (c .before .enum-told .given .1) (c .if2 .left)
+    let l = c .before .before .before .before .before .before .before .before .before .before .loop in
+    let so = hastened _ _ _ _ _ _ _ _ _ (l .inv) (c .before .before .before .before .before .before .before .before .before .if1 .left) (c .before .before .before .before .before .before .hasten .ensures) in
+    let h = took _ _ _ _ _ _ _ _ _ _ _ so (c .before .before .before .before .before .before .before .before .before .if1 .left) (c .before .before .before .one-record .ensures .0) in
+    more-came _ _ _ _ _ _ _ _ _ _ _ (λ i. omega (arith, c .before .before .before .before .before .before .before .before .before .before .before .before .shared-slice-known .given i)) h (c .before .enum-told .given .1) (c .if2 .left)
 
 enum-known-t : tie.Need-enum-known-t Inv-loop μ-loop
 enum-known-t c = search needs
@@ -76,24 +100,27 @@ enum-known-t c = search needs
 put-told-requires : tie.Need-put-told-requires Inv-loop μ-loop
 put-told-requires c κs = omega arith
 
-add-used : tie.Need-add-used Inv-loop μ-loop
-add-used c =
-    let r = c .before .before .before .before .before .before .before in
-    let h = took _ _ _ _ _ _ _ _ _ _ _ (r .before .before .before .before .loop .inv) (r .before .before .before .if1 .left) (r .one-record .ensures .0) in
+add-used-2 : tie.Need-add-used-2 Inv-loop μ-loop
+add-used-2 c =
+    let l = c .before .before .before .before .before .before .before .before .before .before .before .before .before .before .loop in
+    let so = hastened _ _ _ _ _ _ _ _ _ (l .inv) (c .before .before .before .before .before .before .before .before .before .before .before .before .before .if1 .left) (c .before .before .before .before .before .before .before .before .before .before .hasten .ensures) in
+    let h = took _ _ _ _ _ _ _ _ _ _ _ so (c .before .before .before .before .before .before .before .before .before .before .before .before .before .if1 .left) (c .before .before .before .before .before .before .before .one-record .ensures .0) in
     let far = goes-far _ _ _ _ _ _ _ _ _ _ _ h (c .before .before .before .before .before .t .given .1) in
     omega arith
 
 loop-less : tie.Need-loop-less Inv-loop μ-loop
 loop-less c =
-    let r = c .before .before .before .before .before .before .before in
-    let h = took _ _ _ _ _ _ _ _ _ _ _ (r .before .before .before .before .loop .inv) (r .before .before .before .if1 .left) (r .one-record .ensures .0) in
+    let l = c .before .before .before .before .before .before .before .before .before .before .before .before .before .before .loop in
+    let so = hastened _ _ _ _ _ _ _ _ _ (l .inv) (c .before .before .before .before .before .before .before .before .before .before .before .before .before .if1 .left) (c .before .before .before .before .before .before .before .before .before .before .hasten .ensures) in
+    let h = took _ _ _ _ _ _ _ _ _ _ _ so (c .before .before .before .before .before .before .before .before .before .before .before .before .before .if1 .left) (c .before .before .before .before .before .before .before .one-record .ensures .0) in
     let far = goes-far _ _ _ _ _ _ _ _ _ _ _ h (c .before .before .before .before .before .t .given .1) in
     omega arith
 
 loop-again : tie.Need-loop-again Inv-loop μ-loop
 loop-again c =
-    let r = c .before .before .before .before .before .before .before in
-    let h = took _ _ _ _ _ _ _ _ _ _ _ (r .before .before .before .before .loop .inv) (r .before .before .before .if1 .left) (r .one-record .ensures .0) in
+    let l = c .before .before .before .before .before .before .before .before .before .before .before .before .before .before .loop in
+    let so = hastened _ _ _ _ _ _ _ _ _ (l .inv) (c .before .before .before .before .before .before .before .before .before .before .before .before .before .if1 .left) (c .before .before .before .before .before .before .before .before .before .before .hasten .ensures) in
+    let h = took _ _ _ _ _ _ _ _ _ _ _ so (c .before .before .before .before .before .before .before .before .before .before .before .before .before .if1 .left) (c .before .before .before .before .before .before .before .one-record .ensures .0) in
     goes-on _ _ _ _ _ _ _ _ _ _ _ h (c .before .before .before .before .before .t .given .1) (c .before .before .put-told .ensures)
 
 enum-known-t-2 : tie.Need-enum-known-t-2 Inv-loop μ-loop
@@ -103,12 +130,13 @@ number-requires-2 : tie.Need-number-requires-2 Inv-loop μ-loop
 number-requires-2 c κs = search needs
 
 same-length-4 : tie.Need-same-length-4 Inv-loop μ-loop
-same-length-4 c = wrote-length (c .before .before .before .before .before .before .before .before .loop .inv .wrote)
+same-length-4 c = wrote-length (c .before .before .before .before .before .before .before .before .before .before .before .loop .inv .wrote)
 
 returns-4 : tie.Need-returns-4 Inv-loop μ-loop
 returns-4 c =
-    let r = c .before .before .before .before in
-    let h = took _ _ _ _ _ _ _ _ _ _ _ (r .before .before .before .before .loop .inv) (r .before .before .before .if1 .left) (r .one-record .ensures .0) in
+    let l = c .before .before .before .before .before .before .before .before .before .before .before .loop in
+    let so = hastened _ _ _ _ _ _ _ _ _ (l .inv) (c .before .before .before .before .before .before .before .before .before .before .if1 .left) (c .before .before .before .before .before .before .before .hasten .ensures) in
+    let h = took _ _ _ _ _ _ _ _ _ _ _ so (c .before .before .before .before .before .before .before .before .before .before .if1 .left) (c .before .before .before .before .one-record .ensures .0) in
     ends-came _ _ _ _ _ _ _ _ _ _ _ h (c .before .before .t2 .given .1) (c .number2 .ensures)
 
 pub follow-spec : {M : Type 1} → statement M
@@ -121,6 +149,11 @@ follow-spec =
     sub-if1
     same-length
     returns
+    sub-hasten
+    part-hasten-start
+    part-hasten-end
+    hasten-requires
+    add-used
     sub-one-record
     part-one-record-start
     part-one-record-end
@@ -134,7 +167,7 @@ follow-spec =
     returns-3
     enum-known-t
     put-told-requires
-    add-used
+    add-used-2
     loop-less
     loop-again
     enum-known-t-2

@@ -1,9 +1,9 @@
--- `put_decimal` writes one digit, or the digits of the tenth and behind them the last one. The number falls from call to call.
+-- `put_decimal` writes one digit, or two, or the digits of the hundredth and behind them the last two. The number falls from call to call.
 -- Assumes nothing.
 use Prim.Native.Nat.{ℕ, _<_}
 use native.Mathlib.Omega.{arith}
 use mathlib.Core.Path.{_∙_}
-use Rattle.sheet_text.proofs.Writing.{one-fits, one-wrote, head-fits, last-fits, last-wrote}
+use Rattle.sheet_text.proofs.Writing.{one-fits, one-wrote, two-fits, two-wrote, head-fits, last-fits, last-wrote}
 use borrow.Author.Needs.{needs}
 use borrow.Fn.Kinds.{In}
 use borrow.Fn.PlainCycle.{Measures, is, falls, and}
@@ -12,6 +12,7 @@ use Rattle.sheet_text.proofs.text.put_decimal.Kinds as put-decimal-kind
 use Rattle.sheet_text.proofs.text.+put_decimal.Lts-put_decimal as put-decimal-lts
 use Rattle.sheet_text.proofs.text.glyph.Reads as glyph-reads
 use Rattle.sheet_text.proofs.text.put_byte.Reads as put-byte-reads
+use Rattle.sheet_text.proofs.text.put_two.Reads as put-two-reads
 use Rattle.sheet_text.proofs.text.+put_decimal.{statement}
 use Rattle.sheet_text.proofs.text.+put_decimal.Tie.{close}
 
@@ -31,6 +32,8 @@ put-decimal-glyph-requires : (t : ℕ) → put-decimal-lts.Need-glyph-requires (
   glyph-reads.Learnt,
   put-byte-reads.Asked,
   put-byte-reads.Learnt,
+  put-two-reads.Asked,
+  put-two-reads.Learnt,
   put-decimal-below t,
   put-decimal.Post,
 ) (put-decimal-at t) put-decimal.Post
@@ -41,16 +44,20 @@ put-decimal-put-byte-requires : (t : ℕ) → put-decimal-lts.Need-put-byte-requ
   glyph-reads.Learnt,
   put-byte-reads.Asked,
   put-byte-reads.Learnt,
+  put-two-reads.Asked,
+  put-two-reads.Learnt,
   put-decimal-below t,
   put-decimal.Post,
 ) (put-decimal-at t) put-decimal.Post
-put-decimal-put-byte-requires t c κs = one-fits _ _ (omega arith) (c .before .before .before .before .pre .1)
+put-decimal-put-byte-requires t c κs = one-fits _ (omega arith) (c .before .before .before .before .pre .1) _
 
 put-decimal-same-length : (t : ℕ) → put-decimal-lts.Need-same-length (
   glyph-reads.Asked,
   glyph-reads.Learnt,
   put-byte-reads.Asked,
   put-byte-reads.Learnt,
+  put-two-reads.Asked,
+  put-two-reads.Learnt,
   put-decimal-below t,
   put-decimal.Post,
 ) (put-decimal-at t) put-decimal.Post
@@ -61,65 +68,100 @@ put-decimal-returns : (t : ℕ) → put-decimal-lts.Need-returns (
   glyph-reads.Learnt,
   put-byte-reads.Asked,
   put-byte-reads.Learnt,
+  put-two-reads.Asked,
+  put-two-reads.Learnt,
   put-decimal-below t,
   put-decimal.Post,
 ) (put-decimal-at t) put-decimal.Post
-put-decimal-returns t c = one-wrote _ _ (omega arith) (c .before .before .before .glyph .ensures) (c .before .before .put-byte .ensures)
+put-decimal-returns t c = one-wrote _ (omega arith) (c .before .before .before .glyph .ensures) (c .before .before .put-byte .ensures)
 
-put-decimal-put-decimal-requires : (t : ℕ) → put-decimal-lts.Need-put-decimal-requires (
+put-decimal-put-two-requires : (t : ℕ) → put-decimal-lts.Need-put-two-requires (
   glyph-reads.Asked,
   glyph-reads.Learnt,
   put-byte-reads.Asked,
   put-byte-reads.Learnt,
+  put-two-reads.Asked,
+  put-two-reads.Learnt,
   put-decimal-below t,
   put-decimal.Post,
 ) (put-decimal-at t) put-decimal.Post
-put-decimal-put-decimal-requires t c κs = (omega arith, head-fits _ 0 (omega arith) (c .before .before .before .pre .1))
-
-put-decimal-glyph-requires-2 : (t : ℕ) → put-decimal-lts.Need-glyph-requires-2 (
-  glyph-reads.Asked,
-  glyph-reads.Learnt,
-  put-byte-reads.Asked,
-  put-byte-reads.Learnt,
-  put-decimal-below t,
-  put-decimal.Post,
-) (put-decimal-at t) put-decimal.Post
-put-decimal-glyph-requires-2 t c κs = omega arith
-
-put-decimal-put-byte-requires-2 : (t : ℕ) → put-decimal-lts.Need-put-byte-requires-2 (
-  glyph-reads.Asked,
-  glyph-reads.Learnt,
-  put-byte-reads.Asked,
-  put-byte-reads.Learnt,
-  put-decimal-below t,
-  put-decimal.Post,
-) (put-decimal-at t) put-decimal.Post
-put-decimal-put-byte-requires-2 t c κs =
-    let c4 = c .before .before .before .before in
-    last-fits _ _ (omega arith) (c4 .before .before .before .before .pre .1) (c4 .put-decimal .ensures)
+put-decimal-put-two-requires t c κs = (omega arith, two-fits _ (omega arith) (omega arith) (c .before .before .before .before .pre .1))
 
 put-decimal-same-length-2 : (t : ℕ) → put-decimal-lts.Need-same-length-2 (
   glyph-reads.Asked,
   glyph-reads.Learnt,
   put-byte-reads.Asked,
   put-byte-reads.Learnt,
+  put-two-reads.Asked,
+  put-two-reads.Learnt,
   put-decimal-below t,
   put-decimal.Post,
 ) (put-decimal-at t) put-decimal.Post
-put-decimal-same-length-2 t c =
-    c .before .before .put-byte2 .kept .0 ∙ c .before .before .before .before .before .before .before .put-decimal .kept .0
+put-decimal-same-length-2 t c = search needs
 
 put-decimal-returns-2 : (t : ℕ) → put-decimal-lts.Need-returns-2 (
   glyph-reads.Asked,
   glyph-reads.Learnt,
   put-byte-reads.Asked,
   put-byte-reads.Learnt,
+  put-two-reads.Asked,
+  put-two-reads.Learnt,
   put-decimal-below t,
   put-decimal.Post,
 ) (put-decimal-at t) put-decimal.Post
-put-decimal-returns-2 t c =
+put-decimal-returns-2 t c = two-wrote _ (omega arith) (omega arith) (c .before .before .put-two .ensures)
+
+put-decimal-put-decimal-requires : (t : ℕ) → put-decimal-lts.Need-put-decimal-requires (
+  glyph-reads.Asked,
+  glyph-reads.Learnt,
+  put-byte-reads.Asked,
+  put-byte-reads.Learnt,
+  put-two-reads.Asked,
+  put-two-reads.Learnt,
+  put-decimal-below t,
+  put-decimal.Post,
+) (put-decimal-at t) put-decimal.Post
+put-decimal-put-decimal-requires t c κs = (omega arith, head-fits _ (omega arith) (c .before .before .before .before .pre .1))
+
+put-decimal-put-two-requires-2 : (t : ℕ) → put-decimal-lts.Need-put-two-requires-2 (
+  glyph-reads.Asked,
+  glyph-reads.Learnt,
+  put-byte-reads.Asked,
+  put-byte-reads.Learnt,
+  put-two-reads.Asked,
+  put-two-reads.Learnt,
+  put-decimal-below t,
+  put-decimal.Post,
+) (put-decimal-at t) put-decimal.Post
+put-decimal-put-two-requires-2 t c κs =
     let c3 = c .before .before .before in
-    last-wrote _ _ (omega arith) (c3 .glyph2 .ensures) (c3 .before .before .before .before .put-decimal .ensures) (c .before .before .put-byte2 .ensures)
+    (omega arith, last-fits _ (omega arith) (c3 .before .before .before .before .before .pre .1) (c3 .put-decimal .ensures))
+
+put-decimal-same-length-3 : (t : ℕ) → put-decimal-lts.Need-same-length-3 (
+  glyph-reads.Asked,
+  glyph-reads.Learnt,
+  put-byte-reads.Asked,
+  put-byte-reads.Learnt,
+  put-two-reads.Asked,
+  put-two-reads.Learnt,
+  put-decimal-below t,
+  put-decimal.Post,
+) (put-decimal-at t) put-decimal.Post
+put-decimal-same-length-3 t c =
+    c .before .before .put-two2 .kept .0 ∙ c .before .before .before .before .before .before .put-decimal .kept .0
+
+put-decimal-returns-3 : (t : ℕ) → put-decimal-lts.Need-returns-3 (
+  glyph-reads.Asked,
+  glyph-reads.Learnt,
+  put-byte-reads.Asked,
+  put-byte-reads.Learnt,
+  put-two-reads.Asked,
+  put-two-reads.Learnt,
+  put-decimal-below t,
+  put-decimal.Post,
+) (put-decimal-at t) put-decimal.Post
+put-decimal-returns-3 t c =
+    last-wrote _ (omega arith) (c .before .before .before .before .before .before .put-decimal .ensures) (c .before .before .put-two2 .ensures)
 
 pub +put-decimal-spec : {M : Type 1} → statement M
 +put-decimal-spec = close μ-put-decimal λ t. put-decimal-lts.spec (
@@ -127,6 +169,8 @@ pub +put-decimal-spec : {M : Type 1} → statement M
   glyph-reads.Learnt,
   put-byte-reads.Asked,
   put-byte-reads.Learnt,
+  put-two-reads.Asked,
+  put-two-reads.Learnt,
   put-decimal-below t,
   put-decimal.Post,
 )
@@ -136,8 +180,10 @@ pub +put-decimal-spec : {M : Type 1} → statement M
     (put-decimal-put-byte-requires t)
     (put-decimal-same-length t)
     (put-decimal-returns t)
-    (put-decimal-put-decimal-requires t)
-    (put-decimal-glyph-requires-2 t)
-    (put-decimal-put-byte-requires-2 t)
+    (put-decimal-put-two-requires t)
     (put-decimal-same-length-2 t)
     (put-decimal-returns-2 t)
+    (put-decimal-put-decimal-requires t)
+    (put-decimal-put-two-requires-2 t)
+    (put-decimal-same-length-3 t)
+    (put-decimal-returns-3 t)

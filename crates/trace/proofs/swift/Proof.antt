@@ -1,0 +1,72 @@
+-- `swift` reads tag and length as one number, and hands a send or a receive to the machine.
+-- Assumes nothing.
+use native.Mathlib.Omega.{arith}
+use Rattle.trace.proofs.Hastening.{too-few, found-send, found-receive, found-none}
+use borrow.Author.Needs.{needs}
+use Rattle.trace.proofs.swift.Statement.{statement}
+use Rattle.trace.proofs.swift.Tie as tie
+
+returns : tie.Need-returns
+returns c = let a = c .before .before .args in too-few (a .run .now) (a .bytes .now) (c .if1 .taken)
+
+head-requires : tie.Need-head-requires
+head-requires c κs = search needs
+
+shared-slice-read-send : tie.Need-shared-slice-read-send
+shared-slice-read-send c = search needs
+
+shared-slice-read-send-2 : tie.Need-shared-slice-read-send-2
+shared-slice-read-send-2 c = search needs
+
+send-requires : tie.Need-send-requires
+send-requires c κs = search needs
+
+number-requires : tie.Need-number-requires
+number-requires c κs = search needs
+
+returns-2 : tie.Need-returns-2
+returns-2 c =
+    let a = c .before .before .before .before .before .before .before .before .before .args in
+    found-send (a .run .now) (a .bytes .now) (c .before .before .before .before .before .before .head .result) (omega (arith, c .before .before .before .before .before .before .before .before .shared-slice-known .given 0)) (omega (arith, c .before .before .before .before .before .before .before .before .shared-slice-known .given 1)) (omega (arith, c .before .before .before .before .before .before .before .before .shared-slice-known .given 2)) (c .before .before .before .before .before .before .head .ensures) (c .before .before .before .before .before .before .before .if1 .left) (c .before .before .before .before .before .if2 .taken)
+    (c .before .send .ensures .0) (c .number .ensures)
+
+shared-slice-read-receive : tie.Need-shared-slice-read-receive
+shared-slice-read-receive c = search needs
+
+shared-slice-read-receive-2 : tie.Need-shared-slice-read-receive-2
+shared-slice-read-receive-2 c = search needs
+
+receive-requires : tie.Need-receive-requires
+receive-requires c κs = search needs
+
+number-requires-2 : tie.Need-number-requires-2
+number-requires-2 c κs = search needs
+
+returns-3 : tie.Need-returns-3
+returns-3 c =
+    let a = c .before .before .before .before .before .before .before .before .before .before .args in
+    found-receive (a .run .now) (a .bytes .now) (c .before .before .before .before .before .before .before .head .result) (omega (arith, c .before .before .before .before .before .before .before .before .before .shared-slice-known .given 0)) (omega (arith, c .before .before .before .before .before .before .before .before .before .shared-slice-known .given 1)) (omega (arith, c .before .before .before .before .before .before .before .before .before .shared-slice-known .given 2)) (c .before .before .before .before .before .before .before .head .ensures) (c .before .before .before .before .before .before .before .before .if1 .left) (c .before .before .before .before .before .before .if2 .left)
+    (c .before .before .before .before .before .if3 .taken) (c .before .receive .ensures .0) (c .number2 .ensures)
+
+returns-4 : tie.Need-returns-4
+returns-4 c =
+    let a = c .before .before .before .before .before .args in
+    found-none (a .run .now) (a .bytes .now) (c .before .before .head .result) (omega (arith, c .before .before .before .before .shared-slice-known .given 0)) (omega (arith, c .before .before .before .before .shared-slice-known .given 1)) (omega (arith, c .before .before .before .before .shared-slice-known .given 2)) (c .before .before .head .ensures) (c .before .before .before .if1 .left) (c .before .if2 .left) (c .if3 .left)
+
+pub swift-spec : {M : Type 1} → statement M
+swift-spec =
+    tie.close
+    (tie.spec
+    returns
+    head-requires
+    shared-slice-read-send
+    shared-slice-read-send-2
+    send-requires
+    number-requires
+    returns-2
+    shared-slice-read-receive
+    shared-slice-read-receive-2
+    receive-requires
+    number-requires-2
+    returns-3
+    returns-4)
