@@ -1,5 +1,5 @@
-/* The C call on a trace of a million events: sixteen processes in lock step, 1,893 rounds, 999,504 events, a record for each. The trace is read twenty
-   times. With -DPEER the call is the one below, on the machine of machine.h: the peer, written as one would write it by hand; else it is
+/* The C call on a trace of a million events: sixteen processes in lock step, 1,893 rounds, 999,504 events, a record for each. The trace is read
+   twenty times. With -DPEER the call is the one below, on the reader of reader.h: the peer, written as one would write it by hand; else it is
    libtongsparkle.a's. What the report must hold at the end is known, and 'ok' is written where it is so. */
 #include <stdio.h>
 #include <stdlib.h>
@@ -9,27 +9,7 @@
 enum { PROCESSES = 16, ROUNDS = 1893, TIMES = 20 };
 
 #ifdef PEER
-#include "machine.h"
-
-static int broadcast(uint32_t *run, uint8_t p)
-{
-    if (p >= run[SIZE])
-        return 2;
-    if (run[EVENTS] + run[SIZE] > MOST_EVENTS)
-        return 8;
-    uint32_t *s = line(run, p);
-    for (uint32_t q = 0; q < run[SIZE]; q++) {
-        if (s[SENT] >> q & 1)
-            return 3;
-        if ((int64_t)s[ROUND] - (int64_t)line(run, q)[ROUND] == WINDOW)
-            return 4;
-    }
-    for (uint32_t q = 0; q < run[SIZE]; q++)
-        send_to(run, p, (uint8_t)q);
-    return 0;
-}
-
-static uint32_t word(const uint8_t *b) { return (uint32_t)b[0] << 24 | (uint32_t)b[1] << 16 | (uint32_t)b[2] << 8 | b[3]; }
+#include "reader.h"
 
 static void put(uint8_t *b, uint32_t x)
 {
@@ -39,77 +19,16 @@ static void put(uint8_t *b, uint32_t x)
     b[3] = (uint8_t)x;
 }
 
-static uint32_t records(uint32_t *run, const uint8_t *w, size_t left)
-{
-    for (int first = 1;; first = 0) {
-        if (left < 3)
-            return 9;
-        uint32_t tag = w[0], length = (uint32_t)w[1] << 8 | w[2], number = 0;
-        const uint8_t *body = w + 3;
-        left -= 3;
-        switch (tag) {
-        case 0x01:
-            if (!first)
-                return 12;
-            if (length == 0)
-                return 11;
-            if (left < 1)
-                return 9;
-            if (length != 1 + 4 * (uint32_t)body[0])
-                return 11;
-            break;
-        case 0x10:
-        case 0x11:
-        case 0x12:
-        case 0x13:
-        case 0x7f:
-            if (first)
-                return 12;
-            if (length != (tag < 0x12 ? 2 : tag < 0x14 ? 1 : 0))
-                return 11;
-            break;
-        default:
-            return 10;
-        }
-        if (left < length)
-            return 9;
-        switch (tag) {
-        case 0x01: {
-            uint32_t values[255];
-            for (uint32_t p = 0; p < body[0]; p++)
-                values[p] = word(body + 1 + 4 * p);
-            number = (uint32_t)begin(run, body[0], values, body[0]);
-            break;
-        }
-        case 0x10:
-            number = (uint32_t)send_to(run, body[0], body[1]);
-            break;
-        case 0x11:
-            number = (uint32_t)receive_from(run, body[0], body[1]);
-            break;
-        case 0x12:
-            number = (uint32_t)step(run, body[0]);
-            break;
-        case 0x13:
-            number = (uint32_t)broadcast(run, body[0]);
-            break;
-        default:
-            return left ? 13 : 0;
-        }
-        if (number)
-            return number;
-        w = body + length;
-        left -= length;
-    }
-}
-
 uint32_t tongsparkle_replay(const uint8_t *trace, size_t trace_len, uint8_t *report, size_t report_len)
 {
     uint32_t run[RUN];
     if (report_len < TONGSPARKLE_ROOM)
         return 14;
     memset(run, 0, sizeof run);
-    uint32_t number = records(run, trace, trace_len);
+    const uint8_t *end = trace + trace_len;
+    uint32_t number = records(run, &trace, end, NULL);
+    if (number == READ_TO_THE_END && trace != end)
+        number = BYTES_BEHIND;
     for (uint32_t p = 0; p < run[SIZE]; p++) {
         uint8_t *row = report + TONGSPARKLE_ROW * p;
         settle(run, p);

@@ -1,15 +1,23 @@
 -- Traces and their sheets, whole, each as a test that computes: document 01's, and some of our own. Assumes nothing.
-use Prim.Native.Nat.{ℕ}
+use Prim.Native.Nat.{ℕ, zero, suc}
 use Prim.Native.String.{String}
-use mathlib.Core.Bool.{Bool}
+use mathlib.Core.Bool.{Bool, true}
 use mathlib.Core.List.{List, [], _∷_, _++_}
+use lib.ListN.{drop}
 use Rattle.rounds.specs.Examples.{equal}
+use Rattle.words.specs.Layout.{Mem}
+use Rattle.words.specs.Calls.{blank}
 use Rattle.words.specs.Shows.{standing}
+use Rattle.words.specs.Examples.{memory}
 use Rattle.records.specs.Examples.{input}
 use Rattle.trace.specs.Examples.{comesTo, openTwo, send, receive, step, broadcast, end}
+use Rattle.trace.specs.Turns.{tells, onAnswer, onOpening, turnOn, turn, wordsOn, turned}
+use Rattle.sheet_text.specs.declared.Stand.{Stand}
 use Rattle.sheet_text.specs.Ascii.{ascii}
 use Rattle.sheet_text.specs.Text.{glyph, digits, decimal, hex, field, setField, choiceField, hLine, wLine, vLine, eLine}
 use Rattle.sheet_text.specs.Sheet.{hLines, linesBelow, wLines, vLines, sheetOf, sheet}
+use Rattle.sheet_text.specs.Pieces.{rests, adds, toldText, waits, onTurn, follow, closingLine, closingCount, closing, piece}
+use Rattle.sheet_text.specs.Claims.{first}
 use Rattle.sheet_text.specs.Carrier.{keeps, inside, ifKept, withoutLines, withoutVotes}
 
 -- the whole text against the whole input. To unfold it is to unfold reading, machine and sheet
@@ -21,6 +29,17 @@ shows bytes text = equal (sheet bytes) (ascii text)
 unfoldable pub carries : List ℕ → String → Bool
 unfolding shows keeps inside ifKept withoutLines withoutVotes
 carries bytes text = equal (withoutVotes (sheet bytes)) (ascii text)
+
+-- the text of n pieces, each with so much room, where all of the trace is at hand. To unfold it is to unfold the machine in memory too
+unfoldable pub pieces : ℕ → ℕ → Stand → Mem → List ℕ → List ℕ
+pieces zero room s m held = []
+pieces (suc n) room s m held =
+    let x = piece true room s m held in
+    x .text ++ pieces n room (x .stand) (x .words) (drop (x .used) held)
+
+unfoldable pub writes : ℕ → ℕ → List ℕ → String → Bool
+unfolding shows memory turnOn turn wordsOn turned onAnswer onOpening tells rests adds toldText waits onTurn follow closingLine closingCount closing piece pieces first
+writes n room bytes text = equal (pieces n room first blank bytes) (ascii text)
 
 -- ---- document 01's
 unfoldable pub starred : List Bool
@@ -35,7 +54,7 @@ abbrev alone : List ℕ
 alone = send 0 0 ++ (receive 0 0 ++ step 0)
 
 unfoldable pub ours : List Bool
-unfolding shows carries
+unfolding shows carries writes
 ours =
     -- without an accepted opening only the `e` line is printed
     shows [] "e 0 9\n"
@@ -59,6 +78,13 @@ ours =
     ∷ equal (decimal 4294967295) (ascii "4294967295")
     ∷ equal (hex 43981) (ascii "abcd")
     ∷ equal (hex 10) (ascii "000a")
+    -- pieces: a line at a time, and all at once
+    ∷ writes 12 66 input "h 0 1 0003\nw 0 2 2 2 1 1 0003\nw 1 1 6 0 0 0 0002\nv 0 4 - -\nv 1 4 - -\ne 6 0\n"
+    ∷ writes 2 1000 (openTwo ++ (send 1 1 ++ step 1)) "w 0 1 1 0 0 0 0001\nw 1 1 1 0 0 0 0002\nv 0 7 - -\nv 1 4 - -\ne 1 6\n"
+    -- a trace that ends without an end record
+    ∷ writes 2 1000 (openTwo ++ send 1 1) "w 0 1 1 0 0 0 0001\nw 1 1 1 0 0 0 0002\nv 0 7 - -\nv 1 4 - -\ne 1 9\n"
+    -- without room for a line nothing is written
+    ∷ writes 9 65 input ""
     -- what the carrier gets
     ∷ carries input "h 0 1 0003\nw 0 2 2 2 1 1 0003\nw 1 1 6 0 0 0 0002\ne 6 0\n"
     ∷ []
