@@ -9,13 +9,13 @@ use lib.Seq.{drop-drop, slice}
 use Rattle.words.specs.Layout.{Mem}
 use Rattle.records.specs.Records.{longest}
 use Rattle.records.proofs.Rest.{rest}
-use Rattle.sheet_text.specs.declared.Stand.{Stand}
-use Rattle.sheet_text.specs.declared.Wants.{Wants}
-use Rattle.sheet_text.specs.declared.Wants.the-variants.{Input, Room, Nothing}
-use Rattle.sheet_text.specs.declared.Piece.{Piece}
-use Rattle.sheet_text.specs.Pieces.{lineRoom, piece, said, Came}
-use Rattle.sheet_text.specs.Claims.{ahead}
-use Rattle.sheet_text.proofs.Progress.{goes-nearer}
+use Rattle.lines.specs.declared.Stand.{Stand}
+use Rattle.lines.specs.declared.Wants.{Wants}
+use Rattle.lines.specs.declared.Wants.the-variants.{Input, Room, Nothing}
+use Rattle.lines.specs.declared.Piece.{Piece}
+use Rattle.lines.specs.Pieces.{lineRoom, piece, said, Came}
+use Rattle.lines.specs.Claims.{ahead}
+use Rattle.lines.proofs.Progress.{goes-nearer}
 
 -- ---- of a piece that waits for input little is left, and one that waits for room has come nearer
 pub printed : {w out out′ : List ℕ} {m′ : Mem} {p : Piece} (last : Bool) (s : Stand) (m : Mem) → lineRoom ≤ length out

@@ -3,17 +3,17 @@
 use libc::STDERR_FILENO;
 use libc::STDIN_FILENO;
 use libc::STDOUT_FILENO;
+use lines::Piece;
+use lines::Stand;
+use lines::Wants;
 use machine::RUN;
-use sheet_text::Piece;
-use sheet_text::Stand;
-use sheet_text::Wants;
 ghost use Prim.Native.Nat.{_+_, _≤_, _<_};
 ghost use mathlib.Core.Path.{_≡_};
 ghost use lib.ListN.{length, drop};
 ghost use Rattle.records.specs.Records.{longest};
-ghost use Rattle.sheet_text.specs.declared.Wants.the-variants as Wants;
-ghost use Rattle.sheet_text.specs.Pieces.{lineRoom};
-ghost use Rattle.sheet_text.specs.Claims.{ahead};
+ghost use Rattle.lines.specs.declared.Wants.the-variants as Wants;
+ghost use Rattle.lines.specs.Pieces.{lineRoom};
+ghost use Rattle.lines.specs.Claims.{ahead};
 
 // The trace is read, and the sheet written, through 64 KiB in all.
 const INPUT: usize = 49152;

@@ -14,8 +14,8 @@ use Rattle.voting.proofs.Choice.{the-field}
 use Rattle.words.specs.declared.Standing.{Standing}
 use Rattle.words.specs.Spelled.{wordOf}
 use Rattle.sheet_text.specs.Written.{Fits}
-use Rattle.sheet_text.specs.Pieces.{lineRoom}
-use Rattle.sheet_text.specs.Text.{glyph, decimal, hex, field, setField, choiceField, hLine, wLine, vLine, eLine}
+use Rattle.lines.specs.Pieces.{lineRoom}
+use Rattle.lines.specs.Text.{glyph, decimal, hex, field, setField, choiceField, hLine, wLine, vLine, eLine}
 use Rattle.sheet_text.proofs.Writing.{decimal-one, decimal-more}
 
 -- ---- numbers

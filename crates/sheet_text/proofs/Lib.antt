@@ -1,10 +1,5 @@
--- Start at Whole: the pieces of a sheet add up to it. Blind is what the line carrier may rely on. Below them stand the examples, and what the
--- functions rest on.
-pub mod Whole
-pub mod Blind
-pub mod AllExamples
-pub mod Progress
-pub mod Pacing
-pub mod Shifting
+-- What the functions rest on: text in a buffer, how long lines are, the loops of the pieces, and bytes that are kept.
 pub mod Writing
 pub mod Lengths
+pub mod Pacing
+pub mod Shifting

@@ -8,7 +8,7 @@ use mathlib.Core.List.{List, [], _∷_, _++_, append-assoc}
 use lib.ListN.{length, set, length-append}
 use lib.Seq.{sets, length-sets}
 use Rattle.records.proofs.Stored.{sets-sets}
-use Rattle.sheet_text.specs.Text.{glyph, digits, decimal, space, hex, setField}
+use Rattle.lines.specs.Text.{glyph, digits, decimal, space, hex, setField}
 use Rattle.sheet_text.specs.Written.{Wrote, Fits}
 
 -- ---- what is written

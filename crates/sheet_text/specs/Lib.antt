@@ -1,9 +1,2 @@
--- The definitions: the lines of the sheet, the sheet of a trace, the pieces in which it is written, and what the statements speak of.
-pub mod Text
-pub mod Sheet
-pub mod Carrier
-pub mod Pieces
+-- The definitions that the contracts of the writers speak of.
 pub mod Written
-pub mod Claims
-pub mod Ascii
-pub mod Examples

@@ -3,6 +3,9 @@
 mod text;
 
 use crate::text::*;
+use lines::Piece;
+use lines::Stand;
+use lines::Wants;
 use machine::RUN;
 use records::Place;
 use trace::Told;
@@ -14,38 +17,10 @@ ghost use lib.ListN.{length, take, drop};
 ghost use lib.Seq.{slice};
 ghost use Rattle.words.specs.Calls.{blank};
 ghost use Rattle.records.specs.Stored.{over};
-ghost use Rattle.sheet_text.specs.Pieces as Pieces;
-ghost use Rattle.sheet_text.specs.Pieces.{lineRoom, Came};
-ghost use Rattle.sheet_text.specs.Claims as Claims;
+ghost use Rattle.lines.specs.Pieces as Pieces;
+ghost use Rattle.lines.specs.Pieces.{lineRoom, Came};
+ghost use Rattle.lines.specs.Claims as Claims;
 ghost use Rattle.sheet_text.specs.Written.{Wrote};
-
-// Where the writing of a sheet stands.
-pub enum Stand {
-    // The trace is read, and has come to this place.
-    Reads(Place),
-    // The trace has ended with this number, and so many of the lines that follow the `h` lines are written.
-    Closes(u32, u8),
-}
-
-// What the next piece waits for.
-pub enum Wants {
-    // More bytes of the trace: the window has no whole record left.
-    Input,
-    // Room for one more line.
-    Room,
-    // Nothing: the sheet is whole.
-    Nothing,
-}
-
-// What a piece has come to.
-pub struct Piece {
-    // The bytes of the window that are used.
-    pub used: usize,
-    // The bytes of the buffer that are written.
-    pub written: usize,
-    pub stand: Stand,
-    pub wants: Wants,
-}
 
 // The room that is asked for before a line: that of the longest there can be.
 const LINE: usize = 66;

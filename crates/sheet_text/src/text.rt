@@ -4,7 +4,7 @@ use words::Standing;
 ghost use Prim.Native.Nat.{_/_, _%_, _<_};
 ghost use mathlib.Core.Path.{_≡_};
 ghost use mathlib.Core.List.{[], _∷_};
-ghost use Rattle.sheet_text.specs.Text as Text;
+ghost use Rattle.lines.specs.Text as Text;
 ghost use Rattle.sheet_text.specs.Written.{Wrote, Fits};
 
 const SPACE: u8 = 0x20;

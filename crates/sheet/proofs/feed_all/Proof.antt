@@ -5,7 +5,7 @@ use native.Mathlib.Omega.{arith}
 use mathlib.Core.Path.{_≡_, refl}
 use lib.ListN.{length}
 use Rattle.records.specs.Records.{longest}
-use Rattle.sheet_text.specs.Pieces.{lineRoom}
+use Rattle.lines.specs.Pieces.{lineRoom}
 use borrow.Author.Needs.{needs}
 use Rattle.sheet.proofs.feed_all.Statement.{statement}
 use Rattle.sheet.proofs.feed_all.Tie as tie

@@ -4,7 +4,7 @@ use Prim.Native.Nat.{_≤_}
 use native.Mathlib.Omega.{arith}
 use mathlib.Core.Path.{_≡_, refl, _∙_}
 use lib.ListN.{length, drop}
-use Rattle.sheet_text.specs.Claims.{ahead}
+use Rattle.lines.specs.Claims.{ahead}
 use Rattle.sheet.proofs.Printing.{within, short, nearer, not-input}
 use borrow.Author.Needs.{needs}
 use Rattle.sheet.proofs.print_all.Statement.{statement}

@@ -1,7 +1,7 @@
 -- `begin` clears the memory.
 -- Assumes nothing.
 use mathlib.Core.Path.{refl}
-use Rattle.sheet_text.specs.Claims.{first}
+use Rattle.lines.specs.Claims.{first}
 use borrow.Author.Needs.{needs}
 use Rattle.sheet_text.proofs.begin.Statement.{statement}
 use Rattle.sheet_text.proofs.begin.Tie as tie

@@ -7,7 +7,7 @@ use lib.ListN.{length}
 use Rattle.words.specs.Layout.{Mem}
 use Rattle.words.specs.Spelled.{people}
 use Rattle.words.proofs.Reading.{people-most}
-use Rattle.sheet_text.specs.Pieces as Pieces
+use Rattle.lines.specs.Pieces as Pieces
 use Rattle.sheet_text.proofs.Writing.{wrote-length}
 use Rattle.sheet_text.proofs.Pacing.{Shut, none-shut, all-came, short-came, line-on}
 use borrow.Author.Needs.{needs}

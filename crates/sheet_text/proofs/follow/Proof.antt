@@ -3,7 +3,7 @@
 use Prim.Native.Nat.{_-_}
 use native.Mathlib.Omega.{arith}
 use lib.ListN.{length}
-use Rattle.sheet_text.specs.Pieces as Pieces
+use Rattle.lines.specs.Pieces as Pieces
 use Rattle.sheet_text.proofs.Writing.{wrote-length}
 use Rattle.sheet_text.proofs.Pacing.{Gone, none-gone, full-came, hastened, took, goes-far, goes-on, ends-came, more-came, last-came}
 use borrow.Author.Needs.{needs}

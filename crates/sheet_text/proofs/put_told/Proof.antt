@@ -1,7 +1,7 @@
 -- `put_told` writes the line of a step, for which there is room.
 -- Assumes nothing.
 use native.Mathlib.Omega.{arith}
-use Rattle.sheet_text.specs.Pieces.{toldText}
+use Rattle.lines.specs.Pieces.{toldText}
 use Rattle.sheet_text.proofs.Writing.{wrote-none, wrote-within}
 use Rattle.sheet_text.proofs.Lengths.{h-fits}
 use borrow.Author.Needs.{needs}

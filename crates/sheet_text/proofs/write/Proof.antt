@@ -1,6 +1,6 @@
 -- `write` is the piece of where the writing stands.
 -- Assumes nothing.
-use Rattle.sheet_text.specs.Pieces as Pieces
+use Rattle.lines.specs.Pieces as Pieces
 use Rattle.sheet_text.proofs.Pacing.{any-window}
 use borrow.Author.Needs.{needs}
 use Rattle.sheet_text.proofs.write.Statement.{statement}

@@ -1,7 +1,7 @@
 -- `glyph` gives the code of a figure below ten and of a letter from ten on.
 -- Assumes nothing.
 use borrow.Author.Tests.{lt-ltb, le-ltb}
-use Rattle.sheet_text.specs.Text.{glyph}
+use Rattle.lines.specs.Text.{glyph}
 use borrow.Author.Needs.{needs}
 use Rattle.sheet_text.proofs.text.glyph.Statement.{statement}
 use Rattle.sheet_text.proofs.text.glyph.Tie as tie

@@ -1,7 +1,7 @@
 -- `put_choice` writes a space and a dash, or the field of the value.
 -- Assumes nothing.
 use mathlib.Core.List.{[], _∷_}
-use Rattle.sheet_text.specs.Text.{choiceField}
+use Rattle.lines.specs.Text.{choiceField}
 use Rattle.sheet_text.proofs.Writing.{wrote-one, fits-first, fits-rest}
 use borrow.Author.Needs.{needs}
 use Rattle.sheet_text.proofs.text.put_choice.Statement.{statement}

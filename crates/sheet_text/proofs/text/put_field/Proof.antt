@@ -1,7 +1,7 @@
 -- `put_field` writes the space and, behind it, the number.
 -- Assumes nothing.
 use mathlib.Core.List.{[], _∷_}
-use Rattle.sheet_text.specs.Text.{field}
+use Rattle.lines.specs.Text.{field}
 use Rattle.sheet_text.proofs.Writing.{wrote-one, fits-first, fits-rest}
 use borrow.Author.Needs.{needs}
 use Rattle.sheet_text.proofs.text.put_field.Statement.{statement}

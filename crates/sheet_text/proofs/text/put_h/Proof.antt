@@ -1,6 +1,6 @@
 -- `put_h` writes the letter, the fields and the line feed, each behind the one before.
 -- Assumes nothing.
-use Rattle.sheet_text.specs.Text.{hLine}
+use Rattle.lines.specs.Text.{hLine}
 use Rattle.sheet_text.proofs.Writing.{wrote-one, fits-first, fits-rest}
 use borrow.Author.Needs.{needs}
 use Rattle.sheet_text.proofs.text.put_h.Statement.{statement}

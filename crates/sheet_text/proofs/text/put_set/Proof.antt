@@ -3,7 +3,7 @@
 use native.Mathlib.Omega.{arith}
 use mathlib.Core.Path.{refl}
 use lib.ListN.{length-set}
-use Rattle.sheet_text.specs.Text.{hex, setField}
+use Rattle.lines.specs.Text.{hex, setField}
 use Rattle.sheet_text.proofs.Writing.{set-stored}
 use borrow.Author.Needs.{needs}
 use Rattle.sheet_text.proofs.text.put_set.Statement.{statement}

@@ -1,6 +1,6 @@
 -- `put_w` writes the letter, the fields and the line feed, each behind the one before.
 -- Assumes nothing.
-use Rattle.sheet_text.specs.Text.{wLine}
+use Rattle.lines.specs.Text.{wLine}
 use Rattle.sheet_text.proofs.Writing.{wrote-length, wrote-one, fits-first, fits-rest}
 use Rattle.sheet_text.proofs.text.put_w.Statement.{statement}
 use Rattle.sheet_text.proofs.text.put_w.Tie as tie

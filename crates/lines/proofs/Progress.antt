@@ -20,14 +20,14 @@ use Rattle.trace.specs.declared.Turn.the-variants.{More, Goes, Ends}
 use Rattle.trace.specs.Outcome.{endingNumber, atEnd}
 use Rattle.trace.specs.Turns.{turn, turned}
 use Rattle.trace.proofs.Looping.{goes-within}
-use Rattle.sheet_text.specs.declared.Stand.{Stand}
-use Rattle.sheet_text.specs.declared.Stand.the-variants.{Reads, Closes}
-use Rattle.sheet_text.specs.declared.Wants.{Wants}
-use Rattle.sheet_text.specs.declared.Wants.the-variants as wants
-use Rattle.sheet_text.specs.Pieces.{lineRoom, Part, rests, adds, toldText, waits, onTurn, follow, closingLine, closingCount, closing, piece}
-use Rattle.sheet_text.specs.Claims.{ahead}
-use Rattle.sheet_text.proofs.Pacing.{turn-is}
-use Rattle.sheet_text.proofs.Whole.{less-one}
+use Rattle.lines.specs.declared.Stand.{Stand}
+use Rattle.lines.specs.declared.Stand.the-variants.{Reads, Closes}
+use Rattle.lines.specs.declared.Wants.{Wants}
+use Rattle.lines.specs.declared.Wants.the-variants as wants
+use Rattle.lines.specs.Pieces.{lineRoom, Part, rests, adds, toldText, waits, onTurn, follow, closingLine, closingCount, closing, piece}
+use Rattle.lines.specs.Claims.{ahead}
+use Rattle.lines.proofs.Turning.{turn-is}
+use Rattle.lines.proofs.Whole.{less-one}
 
 abbrev mostLines : ℕ
 mostLines = mostProcesses + mostProcesses + 1

@@ -4,7 +4,7 @@ use mathlib.Core.Path.{_≡_, refl}
 use mathlib.Core.Bool.{true}
 use mathlib.Core.List.{_++_}
 use Rattle.rounds.specs.Examples.{every}
-use Rattle.sheet_text.specs.Examples.{starred, ours}
+use Rattle.lines.specs.Examples.{starred, ours}
 
 pub examples-hold : every (starred ++ ours) ≡ true
 unfolding starred ours

@@ -18,12 +18,12 @@ use Rattle.trace.specs.declared.Turn.{Turn}
 use Rattle.trace.specs.declared.Turn.the-variants.{More, Goes, Ends}
 use Rattle.trace.specs.Outcome.{endingNumber, atEnd}
 use Rattle.trace.specs.Turns.{turn, turned}
-use Rattle.sheet_text.specs.declared.Stand.{Stand}
-use Rattle.sheet_text.specs.declared.Stand.the-variants.{Reads, Closes}
-use Rattle.sheet_text.specs.declared.Wants.{Wants}
-use Rattle.sheet_text.specs.declared.Wants.the-variants as wants
-use Rattle.sheet_text.specs.declared.Piece.{Piece}
-use Rattle.sheet_text.specs.Text.{hLine, wLine, vLine, eLine}
+use Rattle.lines.specs.declared.Stand.{Stand}
+use Rattle.lines.specs.declared.Stand.the-variants.{Reads, Closes}
+use Rattle.lines.specs.declared.Wants.{Wants}
+use Rattle.lines.specs.declared.Wants.the-variants as wants
+use Rattle.lines.specs.declared.Piece.{Piece}
+use Rattle.lines.specs.Text.{hLine, wLine, vLine, eLine}
 
 -- the room that is asked for before a line: that of the longest there can be
 abbrev pub lineRoom : ℕ

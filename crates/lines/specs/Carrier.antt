@@ -3,7 +3,7 @@ use Prim.Native.Nat.{ℕ}
 use mathlib.Core.Bool.{Bool, true, false, cond, not}
 use mathlib.Core.List.{List, [], _∷_}
 use lib.Dec.{eqb}
-use Rattle.sheet_text.specs.Text.{letterV}
+use Rattle.lines.specs.Text.{letterV}
 
 -- where a byte of a text stands: at the start of a line, in a line that is kept, in one that is left out
 pub data Spot : Type 0 where

@@ -12,13 +12,13 @@ use Rattle.words.specs.Examples.{memory}
 use Rattle.records.specs.Examples.{input}
 use Rattle.trace.specs.Examples.{comesTo, openTwo, send, receive, step, broadcast, end}
 use Rattle.trace.specs.Turns.{tells, onAnswer, onOpening, turnOn, turn, wordsOn, turned}
-use Rattle.sheet_text.specs.declared.Stand.{Stand}
-use Rattle.sheet_text.specs.Ascii.{ascii}
-use Rattle.sheet_text.specs.Text.{glyph, digits, decimal, hex, field, setField, choiceField, hLine, wLine, vLine, eLine}
-use Rattle.sheet_text.specs.Sheet.{hLines, linesBelow, wLines, vLines, sheetOf, sheet}
-use Rattle.sheet_text.specs.Pieces.{rests, adds, toldText, waits, onTurn, follow, closingLine, closingCount, closing, piece}
-use Rattle.sheet_text.specs.Claims.{first}
-use Rattle.sheet_text.specs.Carrier.{keeps, inside, ifKept, withoutLines, withoutVotes}
+use Rattle.lines.specs.declared.Stand.{Stand}
+use Rattle.lines.specs.Ascii.{ascii}
+use Rattle.lines.specs.Text.{glyph, digits, decimal, hex, field, setField, choiceField, hLine, wLine, vLine, eLine}
+use Rattle.lines.specs.Sheet.{hLines, linesBelow, wLines, vLines, sheetOf, sheet}
+use Rattle.lines.specs.Pieces.{rests, adds, toldText, waits, onTurn, follow, closingLine, closingCount, closing, piece}
+use Rattle.lines.specs.Claims.{first}
+use Rattle.lines.specs.Carrier.{keeps, inside, ifKept, withoutLines, withoutVotes}
 
 -- the whole text against the whole input. To unfold it is to unfold reading, machine and sheet
 unfoldable pub shows : List ℕ → String → Bool

@@ -31,14 +31,14 @@ use Rattle.trace.proofs.Telling.{toldAhead, more-tells, goes-tells, ends-tells,
 use Rattle.trace.proofs.Pausing.{no-bytes, goes-not, ends-not, more-kept, turn-more, turned-more}
 use Rattle.trace.proofs.Looping.{goes-within}
 use Rattle.trace.proofs.Meaning.{trace-shows}
-use Rattle.sheet_text.specs.declared.Stand.{Stand}
-use Rattle.sheet_text.specs.declared.Stand.the-variants.{Reads, Closes}
-use Rattle.sheet_text.specs.declared.Wants.{Wants}
-use Rattle.sheet_text.specs.declared.Wants.the-variants as wants
-use Rattle.sheet_text.specs.Text.{wLine, vLine, eLine}
-use Rattle.sheet_text.specs.Sheet.{hLines, linesBelow, wLines, vLines, sheetOf, sheet}
-use Rattle.sheet_text.specs.Pieces.{lineRoom, Part, rests, adds, toldText, waits, onTurn, follow, closingLine, closingCount, closing, piece}
-use Rattle.sheet_text.specs.Claims.{first, Session, starts, takes, writes}
+use Rattle.lines.specs.declared.Stand.{Stand}
+use Rattle.lines.specs.declared.Stand.the-variants.{Reads, Closes}
+use Rattle.lines.specs.declared.Wants.{Wants}
+use Rattle.lines.specs.declared.Wants.the-variants as wants
+use Rattle.lines.specs.Text.{wLine, vLine, eLine}
+use Rattle.lines.specs.Sheet.{hLines, linesBelow, wLines, vLines, sheetOf, sheet}
+use Rattle.lines.specs.Pieces.{lineRoom, Part, rests, adds, toldText, waits, onTurn, follow, closingLine, closingCount, closing, piece}
+use Rattle.lines.specs.Claims.{first, Session, starts, takes, writes}
 
 -- ---- lines
 told-lines : (t : Told) (rs : List Report) → hLines (reportsOf t ++ rs) ≡ toldText t ++ hLines rs

@@ -8,9 +8,9 @@ use Rattle.rounds.specs.Limits.{mostProcesses}
 use Rattle.words.specs.Layout.{Mem}
 use Rattle.words.specs.Calls.{blank}
 use Rattle.records.specs.declared.Place.the-variants.{First}
-use Rattle.sheet_text.specs.declared.Stand.{Stand}
-use Rattle.sheet_text.specs.declared.Stand.the-variants.{Reads, Closes}
-use Rattle.sheet_text.specs.Pieces.{Part, closingCount, piece}
+use Rattle.lines.specs.declared.Stand.{Stand}
+use Rattle.lines.specs.declared.Stand.the-variants.{Reads, Closes}
+use Rattle.lines.specs.Pieces.{Part, closingCount, piece}
 
 -- where the writing of a sheet begins
 unfoldable pub first : Stand

@@ -5,7 +5,7 @@ use Rattle.rounds.specs.Run.{Config}
 use Rattle.rounds.specs.Runs.{Report}
 use Rattle.words.specs.Shows.{standing}
 use Rattle.trace.specs.Outcome.{Outcome, endingNumber, outcome}
-use Rattle.sheet_text.specs.Text.{hLine, wLine, vLine, eLine}
+use Rattle.lines.specs.Text.{hLine, wLine, vLine, eLine}
 
 -- an `h` line for each heard-of set that is reported
 unfoldable pub hLines : List Report → List ℕ

@@ -20,9 +20,9 @@ use Rattle.records.specs.Script.{valuesOf}
 use Rattle.trace.specs.Outcome.{endingNumber, outcome}
 use Rattle.trace.specs.Claims.{Revalued}
 use Rattle.trace.proofs.Meaning.{opening-values-alone}
-use Rattle.sheet_text.specs.Text.{glyph, digits, decimal, hex, lineFeed, field, setField, choiceField, letterH, letterW, letterV, letterE, hLine, wLine, vLine, eLine}
-use Rattle.sheet_text.specs.Sheet.{hLines, linesBelow, wLines, vLines, sheetOf, sheet}
-use Rattle.sheet_text.specs.Carrier.{start, kept, left, keeps, inside, ifKept, withoutLines, withoutVotes}
+use Rattle.lines.specs.Text.{glyph, digits, decimal, hex, lineFeed, field, setField, choiceField, letterH, letterW, letterV, letterE, hLine, wLine, vLine, eLine}
+use Rattle.lines.specs.Sheet.{hLines, linesBelow, wLines, vLines, sheetOf, sheet}
+use Rattle.lines.specs.Carrier.{start, kept, left, keeps, inside, ifKept, withoutLines, withoutVotes}
 
 -- ---- bytes without a line feed
 Inner : List ℕ → Type 0
