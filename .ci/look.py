@@ -48,7 +48,7 @@ def declares(text, name):
 
 
 def documents():
-    pages = sorted(page for folder in (".", "docs", "bench") for page in (TOP / folder).glob("*.md"))
+    pages = sorted(page for folder in (".", "docs", "bench", "nights") for page in (TOP / folder).glob("*.md"))
     for page in pages:
         for shown, link in re.findall(r"\[([^\]]*)\]\(([^)\s]+)\)", page.read_text()):
             if re.match(r"[a-z]+:", link) or link.startswith("#"):

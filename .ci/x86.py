@@ -54,8 +54,8 @@ def static_library(top, name):
     return top / "target" / "staticlib" / f"lib{name}.a"
 
 
-def own_object(top, name, out):
-    """The crate's code compiled for this machine itself: the very LLVM module that the kit's compiler is given for the archive."""
+def own_object(top, name, out, command="staticlib"):
+    """The crate's code compiled for this machine itself: the very LLVM module that the kit's compiler is given. For a program the command is 'try'."""
     real = toolchain()
     with tempfile.TemporaryDirectory() as home:
         home = pathlib.Path(home)
@@ -68,9 +68,15 @@ def own_object(top, name, out):
                     (here / entry.name).symlink_to(entry)
         module = home / "module.bc"
         keeper = tools / "bin" / "clang"
-        keeper.write_text(f'#!/bin/sh\nfor word in "$@"; do case $word in *.bc) cp "$word" {module} ;; esac; done\nexec {real}/bin/clang "$@"\n')
+        # 'rt try' compiles more than once; the module that counts is the one for -O3
+        keeper.write_text(
+            f"""#!/bin/sh
+case " $* " in *" -O3 "*) for word in "$@"; do case $word in *.bc) cp "$word" {module} ;; esac; done ;; esac
+exec {real}/bin/clang "$@"
+"""
+        )
         keeper.chmod(0o755)
-        done = subprocess.run(["rt", "staticlib", name], cwd=top, env={**os.environ, "RATTLE_HOME": str(home)}, capture_output=True, text=True)
+        done = subprocess.run(["rt", command, name], cwd=top, env={**os.environ, "RATTLE_HOME": str(home)}, capture_output=True, text=True)
         if done.returncode != 0 or not module.exists():
             sys.exit(f"the LLVM module of {name} could not be had:\n{done.stdout}{done.stderr}")
         words = [real / "bin" / "clang", f"--target={MACHINE}-unknown-linux-gnu", "-O3", "-fPIC", "-Wno-override-module", "-c", "-x", "ir", module, "-o", out]

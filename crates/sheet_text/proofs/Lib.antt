@@ -1,4 +1,6 @@
--- What the functions rest on: text in a buffer, how long lines are, the loops of the pieces, and bytes that are kept.
+-- Two allowed results of a call are equal; and what the functions rest on: text in a buffer, how long lines are, the loops of the pieces, and bytes
+-- that are kept.
+pub mod Determined
 pub mod Writing
 pub mod Lengths
 pub mod Pacing

@@ -37,6 +37,7 @@ use Rattle.trace.specs.declared.Ending.the-variants.{Judged}
 use Rattle.trace.specs.declared.Turn.{Turn}
 use Rattle.trace.specs.Outcome.{endingNumber, atEnd, closing, closes, endedBy, nobody, outcomeOf, outcome}
 use Rattle.trace.specs.Claims.{Revalued}
+use Rattle.trace.specs.Haste.{haste}
 use Rattle.trace.proofs.Telling.{toldAhead, told-from-the-start}
 use Rattle.trace.proofs.Values.{Blind, values-alone}
 use Rattle.trace.specs.Turns.{turnOn, turn, runOn, next, wordsOn, turned, leftBy, traceWords}
@@ -139,7 +140,7 @@ read-whole w z = go (parse First w) refl (placed First w)
     go (Wrong f) e h = absurd (fault-some f (rw (e, script-wrong First w f e, e) at z))
     go Cut e h = absurd (fault-some EndsInside (rw (e, script-cut First w e, e) at z))
 
--- ---- two results that the contracts of `replay` and `one_record` allow are equal, the whole memory included
+-- ---- two results that the contracts of `replay`, `one_record` and `hasten` allow are equal, the whole memory included
 pub replay-determined : (w : List ℕ) {x y : Ending} {m b : Mem} → (x ≡ outcome w .ending) × (m ≡ traceWords w) → (y ≡ outcome w .ending) × (b ≡ traceWords w)
     → (x ≡ y) × (m ≡ b)
 replay-determined w p q = (determined (p .0) (q .0), determined (p .1) (q .1))
@@ -147,3 +148,7 @@ replay-determined w p q = (determined (p .0) (q .0), determined (p .1) (q .1))
 pub one-record-determined : (pl : Place) (m : Mem) (w : List ℕ) {t u : Turn} {x y : Mem} → (t ≡ turn pl (controlOf m) w) × (x ≡ turned pl m w)
     → (u ≡ turn pl (controlOf m) w) × (y ≡ turned pl m w) → (t ≡ u) × (x ≡ y)
 one-record-determined pl m w p q = (determined (p .0) (q .0), determined (p .1) (q .1))
+
+pub hasten-determined : (pl : Place) (m : Mem) (w : List ℕ) {r s : ℕ} {x y : Mem} → (r ≡ haste pl m w .used) × (x ≡ haste pl m w .words)
+    → (s ≡ haste pl m w .used) × (y ≡ haste pl m w .words) → (r ≡ s) × (x ≡ y)
+hasten-determined pl m w p q = (determined (p .0) (q .0), determined (p .1) (q .1))
