@@ -78,7 +78,7 @@ module _ (m : Mem) (c : Config) (shown : Shows m c) (number : ℕ) where
       rw (size-means m c shown, le-ltb (n + k) n (omega arith), lt-ltb (n + k) (n + n) (omega arith), back, site-means m c shown k l)
 
   at-e : closingLine m number (n + n + 0) ≡ eLine (c .control .events) number
-  unfolding closingLine
+  unfolding closingLine controlOf
   at-e =
       let e : n + n + 0 ≡ n + n = omega arith in
       rw (e, size-means m c shown, le-ltb (n + n) n (omega arith), le-ltb (n + n) (n + n) (omega arith), events-means m c shown)

@@ -6,7 +6,7 @@ use mathlib.Core.Bool.{Bool, true, false, cond}
 use mathlib.Core.List.{List, [], _∷_, _++_}
 use lib.Dec.{ltb}
 use lib.ListN.{length}
-use Rattle.words.specs.Layout.{Mem, Head, get, EVENTS}
+use Rattle.words.specs.Layout.{Mem}
 use Rattle.words.specs.Spelled.{controlOf, people}
 use Rattle.words.specs.Calls.{standingOf}
 use Rattle.records.specs.declared.Place.{Place}
@@ -75,7 +75,7 @@ unfoldable pub closingLine : Mem → ℕ → ℕ → List ℕ
 closingLine m number k =
     let n = people m in
     cond (ltb k n) (wLine k (standingOf m k))
-    (cond (ltb k (n + n)) (vLine (k - n) (standingOf m (k - n))) (eLine (get m (Head EVENTS)) number))
+    (cond (ltb k (n + n)) (vLine (k - n) (standingOf m (k - n))) (eLine (controlOf m .events) number))
 
 unfoldable pub closingCount : Mem → ℕ
 closingCount m = people m + people m + 1

@@ -181,7 +181,7 @@ module _ (m : Mem) (number k n : ℕ) (q : n ≡ people m) where
   closing-v l h e = rw (← q, le-ltb k n l, lt-ltb k (n + n) h, ← e)
 
   pub closing-e : {events : ℕ} → n ≤ k → n + n ≤ k → events ≡ get m (Head EVENTS) → closingLine m number k ≡ eLine events number
-  unfolding closingLine
+  unfolding closingLine controlOf
   closing-e l h e = rw (← q, le-ltb k n l, le-ltb k (n + n) h, ← e)
 
 -- ---- the loop that closes
