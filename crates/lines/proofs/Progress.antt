@@ -26,8 +26,7 @@ use Rattle.lines.specs.declared.Wants.{Wants}
 use Rattle.lines.specs.declared.Wants.the-variants as wants
 use Rattle.lines.specs.Pieces.{lineRoom, Part, rests, adds, toldText, waits, onTurn, follow, closingLine, closingCount, closing, piece}
 use Rattle.lines.specs.Claims.{ahead}
-use Rattle.lines.proofs.Turning.{turn-is}
-use Rattle.lines.proofs.Whole.{less-one}
+use Rattle.lines.proofs.Turning.{less-one, turn-is}
 
 abbrev mostLines : ℕ
 mostLines = mostProcesses + mostProcesses + 1

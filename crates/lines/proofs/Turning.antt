@@ -36,6 +36,10 @@ unfolding adds
 adds-none x = let e : 0 + x .used ≡ x .used = omega arith in rw e
 
 -- ---- a piece while the trace is read, record by record
+pub less-one : (k b : ℕ) (bs : List ℕ) → 0 < k → drop (k - 1) bs ≡ drop k (b ∷ bs)
+less-one zero b bs l = absurd (omega arith)
+less-one (suc k) b bs l = let e : suc k - 1 ≡ k = omega arith in rw e
+
 behind-drop : (last : Bool) (room k : ℕ) (pl : Place) (m : Mem) (w : List ℕ) → follow last room k pl m w ≡ follow last room 0 pl m (drop k w)
 unfolding follow
 behind-drop last room zero pl m w = refl
@@ -44,8 +48,8 @@ behind-drop last room (suc k) pl m (b ∷ bs) = behind-drop last room k pl m bs
 
 next-drop : (last : Bool) (room k : ℕ) (pl : Place) (m : Mem) (b : ℕ) (bs : List ℕ) → 0 < k
     → follow last room (k - 1) pl m bs ≡ follow last room 0 pl m (drop k (b ∷ bs))
-next-drop last room zero pl m b bs l = absurd (omega arith)
-next-drop last room (suc k) pl m b bs l = let e : suc k - 1 ≡ k = omega arith in rw e (behind-drop last room k pl m bs)
+next-drop last room k pl m b bs l =
+    behind-drop last room (k - 1) pl m bs ∙ ap (λ (w : List ℕ). follow last room 0 pl m w) (less-one k b bs l)
 
 on-same : (last : Bool) (pl : Place) (m : Mem) (t : Turn) (f g : ℕ → Place → Told → Part)
     → ((k : ℕ) (place : Place) (y : Told) → t ≡ Goes k place y → f k place y ≡ g k place y) → onTurn last pl m t f ≡ onTurn last pl m t g

@@ -39,6 +39,7 @@ use Rattle.lines.specs.Text.{wLine, vLine, eLine}
 use Rattle.lines.specs.Sheet.{hLines, linesBelow, wLines, vLines, sheetOf, sheet}
 use Rattle.lines.specs.Pieces.{lineRoom, Part, rests, adds, toldText, waits, onTurn, follow, closingLine, closingCount, closing, piece}
 use Rattle.lines.specs.Claims.{first, Session, starts, takes, writes}
+use Rattle.lines.proofs.Turning.{less-one}
 
 -- ---- lines
 told-lines : (t : Told) (rs : List Report) → hLines (reportsOf t ++ rs) ≡ toldText t ++ hLines rs
@@ -95,11 +96,6 @@ module _ (m : Mem) (c : Config) (shown : Shows m c) (number : ℕ) where
       )
       (append-assoc (linesBelow n (λ k. wLine k (standing c k))) (linesBelow n (λ k. vLine k (standing c k))) _
       ∙ rw (one-line (λ i. closingLine m number (n + n + i)), at-e))
-
--- ---- bytes
-pub less-one : (k b : ℕ) (bs : List ℕ) → 0 < k → drop (k - 1) bs ≡ drop k (b ∷ bs)
-less-one zero b bs l = absurd (omega arith)
-less-one (suc k) b bs l = let e : suc k - 1 ≡ k = omega arith in rw e
 
 -- ---- what holds of a session of the trace w with so many bytes not taken yet
 module _ (w unread : List ℕ) where
