@@ -84,7 +84,7 @@ module _ (m : Mem) (c : Config) (shown : Shows m c) (number : ℕ) where
       let e : n + n + 0 ≡ n + n = omega arith in
       rw (e, size-means m c shown, le-ltb (n + n) n (omega arith), le-ltb (n + n) (n + n) (omega arith), events-means m c shown)
 
-  pub closing-lines : linesBelow (closingCount m) (closingLine m number) ≡ wLines c ++ (vLines c ++ eLine (c .control .events) number)
+  closing-lines : linesBelow (closingCount m) (closingLine m number) ≡ wLines c ++ (vLines c ++ eLine (c .control .events) number)
   unfolding closingCount wLines vLines
   closing-lines =
       rw (

@@ -1,5 +1,5 @@
--- The laws of reading: what is read whole is read the same whatever follows, so that reading in pieces is reading the whole. Rules and Rest serve the
--- proofs of the functions.
+-- The laws of reading: what is read whole is read the same whatever follows, so that reading in pieces is reading the whole. Short says how
+-- little is cut short. Stored, Rules and Rest serve the proofs of functions, here and above.
 pub mod AllExamples
 pub mod Cutting
 pub mod Whole

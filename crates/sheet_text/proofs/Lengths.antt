@@ -19,7 +19,7 @@ use Rattle.lines.specs.Text.{glyph, decimal, hex, field, setField, choiceField,
 use Rattle.sheet_text.proofs.Writing.{decimal-one, decimal-more}
 
 -- ---- numbers
-pub decimal-length : (k n : ℕ) → n < 10 ^ suc k → length (decimal n) ≤ suc k
+decimal-length : (k n : ℕ) → n < 10 ^ suc k → length (decimal n) ≤ suc k
 decimal-length zero n h = let one : n < 10 = omega arith in omega (arith, ap length (decimal-one n one))
 decimal-length (suc k) n h =
     ⊎-elim
@@ -31,15 +31,15 @@ decimal-length (suc k) n h =
     (eq-zero-or-pos (n / 10))
 
 -- ---- fields
-pub field-length : (n : ℕ) → n < 2 ^ 32 → length (field n) ≤ 11
+field-length : (n : ℕ) → n < 2 ^ 32 → length (field n) ≤ 11
 unfolding field
 field-length n h = let d : length (decimal n) ≤ 10 = decimal-length 9 n (omega arith) in omega arith
 
-pub byte-field-length : (n : ℕ) → n < 256 → length (field n) ≤ 4
+byte-field-length : (n : ℕ) → n < 256 → length (field n) ≤ 4
 unfolding field
 byte-field-length n h = let d : length (decimal n) ≤ 3 = decimal-length 2 n (omega arith) in omega arith
 
-pub set-field-length : (s : ℕ) → length (setField s) ≡ 5
+set-field-length : (s : ℕ) → length (setField s) ≡ 5
 unfolding setField hex
 set-field-length s = refl
 
@@ -49,17 +49,17 @@ unfolding wordOf
 choice-word Absent vs h = omega arith
 choice-word (Present x) vs h = omega arith
 
-pub choice-length : (v : Choice) → wordOf v < 2 ^ 32 → length (choiceField v) ≤ 11
+choice-length : (v : Choice) → wordOf v < 2 ^ 32 → length (choiceField v) ≤ 11
 unfolding choiceField wordOf
 choice-length Absent h = omega arith
 choice-length (Present x) h = field-length x h
 
 -- ---- lines; no line is longer than a `w` line may be
-pub h-length : (p r h : ℕ) → p < 256 → r < 2 ^ 32 → length (hLine p r h) ≤ 66
+h-length : (p r h : ℕ) → p < 256 → r < 2 ^ 32 → length (hLine p r h) ≤ 66
 unfolding hLine
 h-length p r h hp hr = simp length-append (omega (arith, byte-field-length p hp, field-length r hr, set-field-length h))
 
-pub w-length : (p : ℕ) (s : Standing) → p < 256 → s .round < 2 ^ 32 → s .sending < 2 ^ 32 → s .collecting < 2 ^ 32 → s .pending < 2 ^ 32 → s .idle < 2 ^ 32
+w-length : (p : ℕ) (s : Standing) → p < 256 → s .round < 2 ^ 32 → s .sending < 2 ^ 32 → s .collecting < 2 ^ 32 → s .pending < 2 ^ 32 → s .idle < 2 ^ 32
     → length (wLine p s) ≤ 66
 unfolding wLine
 w-length p s hp hr hs hc hw hi =
@@ -71,12 +71,12 @@ w-length p s hp hr hs hc hw hi =
     let idle : length (field (s .idle)) ≤ 11 = field-length (s .idle) hi in
     simp length-append (omega (arith, set-field-length (s .reach)))
 
-pub v-length : (p : ℕ) (s : Standing) → p < 256 → s .value < 2 ^ 32 → wordOf (s .vote) < 2 ^ 32 → wordOf (s .decision) < 2 ^ 32 → length (vLine p s) ≤ 66
+v-length : (p : ℕ) (s : Standing) → p < 256 → s .value < 2 ^ 32 → wordOf (s .vote) < 2 ^ 32 → wordOf (s .decision) < 2 ^ 32 → length (vLine p s) ≤ 66
 unfolding vLine
 v-length p s hp hx hv hd =
     simp length-append (omega (arith, byte-field-length p hp, field-length (s .value) hx, choice-length (s .vote) hv, choice-length (s .decision) hd))
 
-pub e-length : (events number : ℕ) → events < 2 ^ 32 → number < 2 ^ 32 → length (eLine events number) ≤ 66
+e-length : (events number : ℕ) → events < 2 ^ 32 → number < 2 ^ 32 → length (eLine events number) ≤ 66
 unfolding eLine
 e-length events number he hn = simp length-append (omega (arith, field-length events he, field-length number hn))
 

@@ -133,11 +133,11 @@ unfolding hasteBehind swift goes left
 haste-is m [] = refl
 haste-is m (b ∷ bs) = rw (haste-drop 4 (left m (swift (b ∷ bs))) bs)
 
-pub goes-haste : (m : Mem) (w : List ℕ) → goes (controlOf m) (swift w) ≡ true
+goes-haste : (m : Mem) (w : List ℕ) → goes (controlOf m) (swift w) ≡ true
     → hasteBehind 0 m w ≡ further (hasteBehind 0 (left m (swift w)) (drop swiftExtent w))
 goes-haste m w e = haste-is m w ∙ rw e
 
-pub stays-haste : (m : Mem) (w : List ℕ) → goes (controlOf m) (swift w) ≡ false → hasteBehind 0 m w ≡ stays (left m (swift w))
+stays-haste : (m : Mem) (w : List ℕ) → goes (controlOf m) (swift w) ≡ false → hasteBehind 0 m w ≡ stays (left m (swift w))
 stays-haste m w e = haste-is m w ∙ rw e
 
 -- ---- what such turns keep is kept

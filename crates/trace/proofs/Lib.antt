@@ -1,4 +1,5 @@
--- Start at Meaning, the front page. Below it stand the examples, the record by record laws that the loop of `replay` rests on, and demand 3.
+-- Start at Meaning, the front page. Below it stand the examples, the record by record laws that the loops of
+-- `replay` and of the sheet rest on, and demand 3.
 pub mod Meaning
 pub mod AllExamples
 pub mod Turning

@@ -1,4 +1,5 @@
--- The definitions: what the replay of a trace comes to on the abstract round machine, and what one record does to the words of a memory.
+-- The definitions: what the replay of a trace comes to on the abstract round machine, and what one record, or
+-- sends and receives all at once, do to the words of a memory.
 pub mod Outcome
 pub mod Turns
 pub mod Haste
