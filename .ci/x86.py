@@ -54,8 +54,9 @@ def static_library(top, name):
     return top / "target" / "staticlib" / f"lib{name}.a"
 
 
-def own_object(top, name, out, command="staticlib"):
-    """The crate's code compiled for this machine itself: the very LLVM module that the kit's compiler is given. For a program the command is 'try'."""
+def own_object(top, name, out, command="staticlib", extra=()):
+    """The crate's code compiled for this machine itself: the very LLVM module that the kit's compiler is given. For a program the command is 'try'.
+    The extra words go to the compiler."""
     real = toolchain()
     with tempfile.TemporaryDirectory() as home:
         home = pathlib.Path(home)
@@ -79,8 +80,8 @@ exec {real}/bin/clang "$@"
         done = subprocess.run(["rt", command, name], cwd=top, env={**os.environ, "RATTLE_HOME": str(home)}, capture_output=True, text=True)
         if done.returncode != 0 or not module.exists():
             sys.exit(f"the LLVM module of {name} could not be had:\n{done.stdout}{done.stderr}")
-        words = [real / "bin" / "clang", f"--target={MACHINE}-unknown-linux-gnu", "-O3", "-fPIC", "-Wno-override-module", "-c", "-x", "ir", module, "-o", out]
-        done = subprocess.run(words, capture_output=True, text=True)
+        words = [real / "bin" / "clang", f"--target={MACHINE}-unknown-linux-gnu", "-O3", "-fPIC", "-Wno-override-module", *extra]
+        done = subprocess.run([*words, "-c", "-x", "ir", module, "-o", out], capture_output=True, text=True)
         if done.returncode != 0:
             sys.exit(f"the LLVM module of {name} does not compile for {MACHINE}:\n{done.stderr}")
     return out

@@ -3,25 +3,11 @@
    Trace and report each end at a page that may not be touched, so that a byte read or written behind them ends the program; the bytes before the
    report are looked at. Says 'N passed, M failed', and exits with 0 only where nothing failed. */
 
-#include <stdio.h>
-#include <stdlib.h>
 #include <string.h>
 #include <sys/mman.h>
 #include <unistd.h>
 
-#include "tongsparkle.h"
-
-static unsigned passed, failed;
-
-static void check(int holds, const char *what)
-{
-    if (holds) {
-        passed++;
-    } else {
-        failed++;
-        printf("FAILED: %s\n", what);
-    }
-}
+#include "records.h"
 
 /* ---- size bytes, the last of them the last of its page; the page behind it may not be touched. Before them stand BEFORE bytes and more, all 0 */
 enum { BEFORE = 64 };
@@ -38,56 +24,8 @@ static uint8_t *guarded(size_t size)
     return start + inner - size;
 }
 
-/* ---- a trace, record by record */
-enum { LARGEST = 1 << 20 };
-
-static uint8_t written[LARGEST];
-static size_t length;
-
-static void byte(unsigned x)
-{
-    if (length == LARGEST) {
-        fputs("the trace is too long for this test\n", stderr);
-        exit(2);
-    }
-    written[length++] = (uint8_t)x;
-}
-
-static void head(unsigned tag, unsigned body)
-{
-    byte(tag);
-    byte(body / 256);
-    byte(body % 256);
-}
-
-/* An opening in which process p has the value first + p. */
-static void opening(unsigned n, uint32_t first)
-{
-    length = 0;
-    head(0x01, 1 + 4 * n);
-    byte(n);
-    for (uint32_t p = 0; p < n; p++) {
-        uint32_t v = first + p;
-        byte(v >> 24);
-        byte(v >> 16 & 255);
-        byte(v >> 8 & 255);
-        byte(v & 255);
-    }
-}
-
-static void send(unsigned p, unsigned q) { head(0x10, 2); byte(p); byte(q); }
-static void receive(unsigned p, unsigned q) { head(0x11, 2); byte(p); byte(q); }
-static void step(unsigned p) { head(0x12, 1); byte(p); }
-static void broadcast(unsigned p) { head(0x13, 1); byte(p); }
-static void end(void) { head(0x7f, 0); }
-
 /* ---- a call: every byte of the report is 0xA5 before it, and must be so afterwards but for the rows of n processes */
 static uint8_t *report;
-
-static uint32_t number(const uint8_t *row)
-{
-    return (uint32_t)row[0] << 24 | (uint32_t)row[1] << 16 | (uint32_t)row[2] << 8 | row[3];
-}
 
 static uint32_t field(unsigned p, unsigned at)
 {
@@ -122,17 +60,6 @@ static void row(unsigned p, uint32_t round, uint32_t s, uint32_t c, uint32_t w, 
     check(field(p, TONGSPARKLE_ROUND) == round && field(p, TONGSPARKLE_SENDING) == s && field(p, TONGSPARKLE_COLLECTING) == c
               && field(p, TONGSPARKLE_PENDING) == w && field(p, TONGSPARKLE_IDLE) == i && field(p, TONGSPARKLE_REACH) == reach,
           what);
-}
-
-/* Document 01's trace without its end record. */
-static void example(void)
-{
-    length = 0;
-    head(0x01, 9);
-    byte(2);
-    byte(0), byte(0), byte(0), byte(7);
-    byte(0), byte(0), byte(0), byte(4);
-    send(0, 0), send(0, 1), receive(0, 0), send(1, 0), receive(0, 1), step(0);
 }
 
 static void example_rows(void)
@@ -255,6 +182,5 @@ int main(void)
         check(field(p, TONGSPARKLE_REACH) == 1u << p, "nobody was heard");
     }
 
-    printf("%u passed, %u failed\n", passed, failed);
-    return failed == 0 && passed > 0 ? 0 : 1;
+    return told();
 }
