@@ -46,12 +46,30 @@ def starter():
     return [tools / "bin" / "qemu-x86_64", tools / "lib" / "ld-linux-x86-64.so.2", "--library-path", tools / "lib"]
 
 
+def preloaded(library, program):
+    """The words that start an x86-64 program with a library of ours beside it, loaded first."""
+    return ["env", f"LD_PRELOAD={library}", program] if NATIVE else [*starter(), "--preload", library, program]
+
+
+def sources(top):
+    """All that the crates are made of."""
+    return [source for kind in ("rt", "antt") for source in top.glob(f"crates/**/*.{kind}")]
+
+
+def newer(made, made_of):
+    """Whether it is there, and newer than all that it is made of."""
+    return made.exists() and all(source.stat().st_mtime < made.stat().st_mtime for source in made_of)
+
+
 def static_library(top, name):
-    """Proves the crate and gives the path of its archive."""
-    done = subprocess.run(["rt", "staticlib", name], cwd=top, capture_output=True, text=True)
-    if done.returncode != 0:
-        sys.exit(f"rt staticlib {name} failed:\n{done.stdout}{done.stderr}")
-    return top / "target" / "staticlib" / f"lib{name}.a"
+    """The path of the crate's archive. Where it is not there or older than a source, the crate is proved and the archive made."""
+    archive = top / "target" / "staticlib" / f"lib{name}.a"
+    if not newer(archive, sources(top)):
+        done = subprocess.run(["rt", "staticlib", name], cwd=top, capture_output=True, text=True)
+        if done.returncode != 0:
+            sys.exit(f"rt staticlib {name} failed:\n{done.stdout}{done.stderr}")
+        archive.touch()
+    return archive
 
 
 def own_object(top, name, out, command="staticlib", extra=()):
