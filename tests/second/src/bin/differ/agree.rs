@@ -111,6 +111,7 @@ pub fn agree(fixed: u64, fresh: u64, seed: u64, seconds: u64, out: &Path) -> boo
     }
     seen.print();
     match seen.lacks() {
+        // a shorter run need not have tried everything
         Some(what) if fixed >= 20_000 => {
             println!("the traces try too little: {what}");
             false

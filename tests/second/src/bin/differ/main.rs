@@ -60,7 +60,7 @@ fn main() -> ExitCode {
         "pieces" => pieces::pieces(),
         "openings" => openings::openings(),
         "paper" => paper::paper(),
-        "file" => words[1..].iter().all(|file| agree::agree_on(file)),
+        "file" if words.len() > 1 => words[1..].iter().all(|file| agree::agree_on(file)),
         "--help" => {
             print!("{HELP}");
             true
