@@ -2,6 +2,7 @@
 
 use crate::machine::{Finished, Run, Site};
 use crate::trace::{self, Night};
+use crate::voting::State;
 use std::collections::BTreeSet;
 
 /// 01: "report room under 384 bytes", which is a row for each of 16 processes.
@@ -16,7 +17,7 @@ pub fn text(night: &Night) -> String {
     let mut lines: Vec<String> = night.steps.iter().map(h_line).collect();
     if let Some(run) = &night.run {
         lines.extend(run.sites.iter().enumerate().map(w_line));
-        lines.extend(run.sites.iter().enumerate().map(v_line));
+        lines.extend(run.sites.iter().enumerate().map(|(process, site)| v_line(process, site.state)));
     }
     lines.push(e_line(night));
     lines.into_iter().map(|line| line + "\n").collect()
@@ -63,8 +64,7 @@ fn w_line((process, site): (usize, &Site)) -> String {
 }
 
 /// 01: "process, value, vote, decision, `-` for absent".
-fn v_line((process, site): (usize, &Site)) -> String {
-    let state = site.state;
+pub fn v_line(process: usize, state: State) -> String {
     format!("v {process} {} {} {}", state.value, or_dash(state.vote), or_dash(state.decision))
 }
 

@@ -26,25 +26,27 @@ pub fn both(proved: &mut Proved, case: &Case) -> Result<Agreed, String> {
         return Err(format!("the C call gives {given}, the second replay {wanted}"));
     }
     if let Some(at) = (0..case.room).find(|at| after[*at] != report[*at]) {
-        return Err(format!(
-            "the report differs at byte {at} (row {}): {:#04x}, the second replay has {:#04x}",
-            at / 24,
-            after[at],
-            report[at]
-        ));
+        let (row, ours, other) = (at / sheet::ROW, after[at], report[at]);
+        return Err(format!("the report differs at byte {at} (row {row}): {ours:#04x}, the second replay has {other:#04x}"));
     }
     let night = trace::replay(&case.trace);
     let (text, other) = (proved.sheet(&case.trace)?, sheet::text(&night));
     if text != other {
-        let (mut ours, mut theirs) = (text.lines(), other.lines());
-        let (line, theirs) = loop {
-            match (ours.next(), theirs.next()) {
-                (Some(a), Some(b)) if a == b => {}
-                (None, None) => break ("an end", "another"),
-                (a, b) => break (a.unwrap_or("nothing more"), b.unwrap_or("nothing more")),
-            }
-        };
-        return Err(format!("the sheet has '{line}', the second replay '{theirs}'"));
+        return Err(first_difference(&text, &other));
     }
     Ok(Agreed { call: wanted, night })
+}
+
+/// The first line in which two sheets differ.
+fn first_difference(sheet: &str, other: &str) -> String {
+    let (mut lines, mut others) = (sheet.split('\n'), other.split('\n'));
+    loop {
+        match (lines.next(), others.next()) {
+            (Some(line), Some(other)) if line == other => {}
+            (line, other) => {
+                let (line, other) = (line.unwrap_or("no more lines"), other.unwrap_or("no more lines"));
+                return format!("the sheet has '{line}', the second replay '{other}'");
+            }
+        }
+    }
 }

@@ -5,6 +5,7 @@ use crate::lockstep;
 use crate::records::Night;
 use crate::share::share;
 use second::machine::Event;
+use second::sheet;
 use second::voting::{next, Content, State};
 use std::collections::{BTreeMap, VecDeque};
 
@@ -76,11 +77,6 @@ fn night(path: &Path) -> Night {
     Night::ended(path.values.clone(), path.heard.iter().flat_map(events).collect::<Vec<Event>>())
 }
 
-fn v_line((process, state): (usize, &State)) -> String {
-    let or_dash = |choice: Option<u32>| choice.map_or("-".to_string(), |value| value.to_string());
-    format!("v {process} {} {} {}", state.value, or_dash(state.vote), or_dash(state.decision))
-}
-
 /// Asks the proved rule what each state becomes where all hear the same set, for every set, the empty one too.
 fn asked(size: usize, found: &BTreeMap<Whole, Path>) -> Result<u64, String> {
     let states: Vec<(&Whole, &Path)> = found.iter().collect();
@@ -92,8 +88,7 @@ fn asked(size: usize, found: &BTreeMap<Whole, Path>) -> Result<u64, String> {
             let ((whole, path), set) = (states[(case / sets) as usize], (case % sets) as u32);
             let mut path = path.clone();
             path.heard.push(vec![set; size]);
-            let becomes: Vec<State> = (0..size).map(|process| after(whole, process, set)).collect();
-            let wanted: Vec<String> = becomes.iter().enumerate().map(v_line).collect();
+            let wanted: Vec<String> = (0..size).map(|process| sheet::v_line(process, after(whole, process, set))).collect();
             let sheet = proved.sheet(&night(&path).bytes())?;
             let lines: Vec<&str> = sheet.lines().filter(|line| line.starts_with('v')).collect();
             if lines != wanted {
