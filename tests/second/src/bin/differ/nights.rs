@@ -232,7 +232,7 @@ fn badly_opened(random: &mut Random, night: &Night) -> Vec<u8> {
     match random.below(6) {
         // a wrong N, with the length that goes with it or without
         0 => {
-            let size = random.pick(&[0, 17, 18, 64, 255]);
+            let size = random.pick(&[0, 17, 17, 18, 255]);
             let mut bytes = opening(&values(random, size));
             bytes.extend(&whole[first..]);
             bytes
