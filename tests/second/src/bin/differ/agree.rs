@@ -22,11 +22,16 @@ struct Seen {
     leads: [u64; 9],
     /// by the most rounds for which messages are in transit to one process, at the end of the trace
     windows: [u64; 9],
+    /// by the last round that a process comes to
+    rounds: [u64; ROUNDS.len()],
     sizes: [u64; 17],
+    decisions: u64,
     late: u64,
     accepted: u64,
-    last_round: u32,
 }
+
+/// The last round of a trace counts with the first of these that it does not pass.
+const ROUNDS: [u32; 8] = [1, 2, 5, 10, 30, 100, 300, 65_535];
 
 struct Found {
     agreed: Agreed,
@@ -43,9 +48,10 @@ impl Seen {
         let (least, most) = (rounds.clone().min().unwrap_or(0), rounds.max().unwrap_or(0));
         self.leads[(most - least) as usize] += 1;
         self.windows[fullest_window(&run)] += 1;
+        self.rounds[ROUNDS.iter().position(|upto| most <= *upto).expect("no round is above the last")] += 1;
         self.sizes[run.sites.len()] += 1;
+        self.decisions += run.sites.iter().filter(|site| site.state.decision.is_some()).count() as u64;
         self.accepted += u64::from(run.accepted);
-        self.last_round = self.last_round.max(most);
     }
 
     fn print(&self) {
@@ -54,8 +60,10 @@ impl Seen {
         println!("  by the sheet   {}", columns(&self.sheets));
         println!("  traces by their greatest lead, 0 to 8:       {}", columns(&self.leads));
         println!("  traces by the rounds waiting at one process: {}", columns(&self.windows));
+        println!("  traces by their last round, up to            {}", columns(&ROUNDS.map(u64::from)));
+        println!("                                               {}", columns(&self.rounds));
         println!("  traces by N, 1 to 16:  {}", columns(&self.sizes[1..]));
-        println!("  {} events accepted; {} sends came late; the last round of all is {}", self.accepted, self.late, self.last_round);
+        println!("  {} events accepted; {} sends came late; {} processes have decided", self.accepted, self.late, self.decisions);
     }
 
     /// What every run of many traces must have tried.
@@ -66,8 +74,10 @@ impl Seen {
             .or(never("in the sheet the number", &self.sheets[..14]))
             .or(never("the greatest lead", &self.leads))
             .or(never("the waiting rounds", &self.windows))
+            .or(never("a last round of the kind", &self.rounds))
             .or(never("one less than N,", &self.sizes[1..]))
             .or((self.late < 1000).then(|| "fewer than 1,000 sends came late".to_string()))
+            .or((self.decisions < 1000).then(|| "fewer than 1,000 processes have decided".to_string()))
     }
 }
 
