@@ -28,7 +28,7 @@ usage: differ LOOK [WORDS]
   openings  the same events under two openings
   paper     document 003's numbers, and the proved rule on each state behind them
   file FILES
-            the traces in these files through both replays
+            the traces in these files through both replays, with several rooms for the report
 The environment names the proved side, the words of a command one a line: TONGSPARKLE_CALLS (c/calls.c), TONGSPARKLE_SHEET (the program),
 TONGSPARKLE_SHEETS (the program with c/many.c). The exit status is 0 where all agrees, 1 where not, 2 where it cannot be told.
 ";
