@@ -1,5 +1,5 @@
 //! The second replay: a plain reference of document 01, written from its text and from documents 000
-//! and 003 alone.
+//! and 003, without the crates of the proved one.
 //!
 //! It replays a trace of events and says what the run then holds. It is written to be read beside the
 //! documents, with sets and maps where they speak of sets and maps, so that a quicker replay can be
