@@ -1,7 +1,7 @@
 """What a script needs to build and run x86-64 programs on this machine, whatever kind of machine it is.
 
 The kit compiles for x86-64. On such a machine its programs run as they are; elsewhere they run under the kit's emulator, and C is compiled by
-gcc-x86-64-linux-gnu, which is installed if it is missing and this is a Debian machine's root.
+gcc-x86-64-linux-gnu. A tool that is missing is installed where this is a Debian machine's root.
 """
 
 import os
@@ -27,15 +27,21 @@ def toolchain():
     return kit() / "on" / MACHINE / "toolchain"
 
 
-def compiler():
-    """A C compiler for x86-64: $CC, or gcc."""
-    name = os.environ.get("CC", "gcc" if NATIVE else "x86_64-linux-gnu-gcc")
-    if not shutil.which(name) and name == "x86_64-linux-gnu-gcc" and shutil.which("apt-get") and os.geteuid() == 0:
-        for words in (["update"], ["install", "-y", "--no-install-recommends", "gcc-x86-64-linux-gnu", "libc6-dev-amd64-cross"]):
+def needed(name, *packages):
+    """The name of a program that must be on the PATH. Where it is missing and this is a Debian machine's root, its packages are installed."""
+    if packages and not shutil.which(name) and shutil.which("apt-get") and os.geteuid() == 0:
+        for words in (["update"], ["install", "-y", "--no-install-recommends", *packages]):
             subprocess.run(["apt-get", "-q", *words], check=True, stdout=subprocess.DEVNULL, env={**os.environ, "DEBIAN_FRONTEND": "noninteractive"})
     if not shutil.which(name):
-        sys.exit(f"a C compiler for x86-64 is needed: {name} is not on the PATH" + ("" if NATIVE else " (Debian: gcc-x86-64-linux-gnu)"))
+        sys.exit(f"{name} must be on the PATH" + (f" (Debian: {packages[0]})" if packages else ""))
     return name
+
+
+def compiler():
+    """A C compiler for x86-64: $CC, or gcc."""
+    if "CC" in os.environ:
+        return needed(os.environ["CC"])
+    return needed("gcc", "gcc", "libc6-dev") if NATIVE else needed("x86_64-linux-gnu-gcc", "gcc-x86-64-linux-gnu", "libc6-dev-amd64-cross")
 
 
 def starter():
@@ -70,6 +76,20 @@ def static_library(top, name):
             sys.exit(f"rt staticlib {name} failed:\n{done.stdout}{done.stderr}")
         archive.touch()
     return archive
+
+
+def program(top, name):
+    """The path of the crate's program. Where it is not there or older than a source, all that it stands on is proved and it is made."""
+    made = top / "target" / "bin" / name
+    if not newer(made, sources(top)):
+        print(f"{name}: the program is built, and all that it stands on is proved: some minutes, once", file=sys.stderr)
+        done = subprocess.run(["rt", "check", name], cwd=top, stdout=subprocess.PIPE, stderr=subprocess.STDOUT, text=True)
+        if done.returncode != 0:
+            sys.exit(f"{done.stdout[-4000:]}{name}: it could not be built ('rt check {name}' gives {done.returncode})")
+        if not made.exists():
+            sys.exit(f"{name}: target/ is not whole; remove it, and call again")
+        made.touch()
+    return made
 
 
 def own_object(top, name, out, command="staticlib", extra=()):
