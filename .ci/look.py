@@ -1,9 +1,10 @@
 """What the gate looks at beside the proofs. Each look prints what it found amiss, and fails if that is anything.
 
-look.py public      every public function of every crate has no `requires` and at least one `ensures`
-look.py documents   every link in a document leads to a file, and a link [`NAME`](FILE) to a declaration of NAME in that file;
-                    docs/STATEMENTS.md names every must-fail edit, as *LABEL*, and no other
-look.py assumed     no crate that calls no C function rests on an assumed contract, by what the check of each crate said last
+look.py public      every public function of every crate has no `requires` and at least one `ensures`; and docs/STATEMENTS.md has a row for it that names
+                    two must-fail edits, or another call whose edits are its own
+look.py documents   every link in a document leads to a file, and to a heading where it names one; a link [`NAME`](FILE) to a declaration of NAME in that
+                    file; every `NAME` is declared in some crate; docs/STATEMENTS.md names every must-fail edit, as *LABEL*, and no other
+look.py assumed     by what the check of each crate said last: it is proved, and rests on no assumed contract but those that are listed here
 """
 
 import pathlib
@@ -11,56 +12,82 @@ import re
 import sys
 
 TOP = pathlib.Path(__file__).resolve().parent.parent
-LIBC = {"libc", "io", "os"}
+STATEMENTS = TOP / "docs" / "STATEMENTS.md"
+EDIT = r"\*([a-z0-9]+(?:_[a-z0-9]+)+)\*"
+# a declaration in antt, of a name
+DECLARED = r"^\s*(?:unfoldable |abbrev )?(?:pub )?(?:record |data )?{}(?: \(.*\)| \{{.*\}})* :"
+# what the programs rest on: the kit's contracts of two functions of the C library
+ASSUMED = {"sheet": {"libc::read", "libc::write"}, "examples": {"libc::write"}, "listing": {"libc::write"}, "lockstep": {"libc::write"}}
+# names in the documents that no crate declares: of the kit, of programs and tests, and a variable of the rule
+OTHERS = {"rt", "requires", "ensures", "io", "open", "stdout", "List·Memᴰ", "Among", "differ", "random", "ms"}
 
 
-def crates():
-    """The listed crates with what each names as its dependencies."""
-    found = {}
-    for line in (TOP / "crates.txt").read_text().splitlines():
-        line = line.split("#")[0].strip()
-        if line:
-            name, _, needs = line.partition(":")
-            found[name.strip()] = needs.split()
-    return found
+def functions():
+    """Each public function of a crate: the file, the name, and what stands between its parameters and its body."""
+    for source in sorted(TOP.glob("crates/*/src/**/*.rt")):
+        for found in re.finditer(r'^\s*pub (?:extern "C" )?fn (\w+)(.*?)^\s*\{', source.read_text(), re.S | re.M):
+            yield source.relative_to(TOP), *found.groups()
 
 
 def public():
-    for source in sorted(TOP.glob("crates/*/src/**/*.rt")):
-        text = source.read_text()
-        for found in re.finditer(r'^\s*pub (?:extern "C" )?fn (\w+)(.*?)^\s*\{', text, re.S | re.M):
-            where = f"{source.relative_to(TOP)}: {found.group(1)}"
-            if re.search(r"^\s*requires\b", found.group(2), re.M):
-                yield f"{where} is public and has a requires"
-            if not re.search(r"^\s*ensures\b", found.group(2), re.M):
-                yield f"{where} is public and promises nothing"
+    rows = [line.split("|") for line in STATEMENTS.read_text().splitlines() if line.startswith("|")]
+    for source, name, promises in functions():
+        if re.search(r"^\s*requires\b", promises, re.M):
+            yield f"{source}: {name} is public and has a requires"
+        if not re.search(r"^\s*ensures\b", promises, re.M):
+            yield f"{source}: {name} is public and promises nothing"
+        own = [row for row in rows if f"[`{name}`](../{source})" in row[1]]
+        if not any(len(re.findall(EDIT, row[-2])) >= 2 or re.search(r"those of `\w+`", row[-2]) for row in own):
+            yield f"docs/STATEMENTS.md has no row for {name} of {source} with two edits"
 
 
 def declares(text, name):
     """Whether the text of a file declares the name, in antt or in Rattle."""
     plain = re.escape(name)
-    return re.search(
-        rf"^\s*(?:unfoldable |abbrev )?(?:pub )?(?:record |data )?{plain}(?: \(.*\)| \{{.*\}})* :"
-        rf"|\b(?:fn|enum|struct|const) {plain}\b",
-        text,
-        re.M,
-    )
+    return re.search(DECLARED.format(plain), text, re.M) or re.search(rf"\b(?:fn|enum|struct|const) {plain}\b", text)
+
+
+def headings(page):
+    """What a link may name of a page: its headings, in small letters, with hyphens for spaces and without other signs."""
+    return {re.sub(r"[^\w -]", "", line.lower()).replace(" ", "-") for line in re.findall(r"^#+ (.*)$", page.read_text(), re.M)}
+
+
+def links(page):
+    for shown, link in re.findall(r"\[([^\]]*)\]\(([^)\s]+)\)", page.read_text()):
+        if re.match(r"[a-z]+:", link):
+            continue
+        where = f"{page.relative_to(TOP)}: [{shown}]({link})"
+        path, _, heading = link.partition("#")
+        target = page.parent / path if path else page
+        if not target.exists():
+            yield f"{where} leads nowhere"
+        elif heading and heading not in headings(target):
+            yield f"{where}: no such heading there"
+        elif re.fullmatch(r"`[^`]+`", shown) and target.suffix in (".antt", ".rt"):
+            if not declares(target.read_text(), shown.strip("`")):
+                yield f"{where}: no such declaration there"
+
+
+def names(page, known):
+    """The names in a page, apart from those in its code, that are not known. A file of a crate counts as a name, and so does a crate."""
+    text = re.sub(r"^(```.*?^```| {4}.*?)$", "", page.read_text(), flags=re.S | re.M)
+    for name in re.findall(r"`([A-Za-z][\w·'-]+)`", text):
+        if name not in known and name not in OTHERS:
+            yield f"{page.relative_to(TOP)}: no crate has `{name}`"
 
 
 def documents():
-    pages = sorted(page for folder in (".", "docs", "bench", "nights") for page in (TOP / folder).glob("*.md"))
-    for page in pages:
-        for shown, link in re.findall(r"\[([^\]]*)\]\(([^)\s]+)\)", page.read_text()):
-            if re.match(r"[a-z]+:", link) or link.startswith("#"):
-                continue
-            where = f"{page.relative_to(TOP)}: [{shown}]({link})"
-            target = page.parent / link.split("#")[0]
-            if not target.exists():
-                yield f"{where} leads nowhere"
-            elif re.fullmatch(r"`[^`]+`", shown) and target.suffix in (".antt", ".rt"):
-                if not declares(target.read_text(), shown.strip("`")):
-                    yield f"{where}: no such declaration there"
-    named = set(re.findall(r"\*([a-z0-9]+(?:_[a-z0-9]+)+)\*", (TOP / "docs" / "STATEMENTS.md").read_text()))
+    known = {crate.name for crate in TOP.glob("crates/*")}
+    for source in [*TOP.glob("crates/*/specs/**/*.antt"), *TOP.glob("crates/*/proofs/**/*.antt"), *TOP.glob("crates/*/src/**/*.rt")]:
+        text = source.read_text()
+        known.add(source.stem)
+        known.update(re.findall(DECLARED.format(r"([^\s(){}:]+)"), text, re.M))
+        # what Rattle declares, and the cases of its enums
+        known.update(re.findall(r"\b(?:fn|enum|struct|const) (\w+)", text) + re.findall(r"^    (\w+)(?:\(.*\))?,$", text, re.M))
+    for page in sorted([*TOP.glob("*.md"), *TOP.glob("docs/**/*.md"), *TOP.glob("bench/*.md"), *TOP.glob("nights/*.md")]):
+        yield from links(page)
+        yield from names(page, known)
+    named = set(re.findall(EDIT, STATEMENTS.read_text()))
     there = {edit.stem for edit in TOP.glob("crates/*/must-fail/*.edit")}
     for label in sorted(there - named):
         yield f"docs/STATEMENTS.md does not say what {label} is for"
@@ -69,17 +96,18 @@ def documents():
 
 
 def assumed():
-    listed = crates()
-
-    def above_c(name):
-        return name in LIBC or any(above_c(need) for need in listed.get(name, []))
-
-    for name in listed:
+    for line in (TOP / "crates.txt").read_text().splitlines():
+        name = line.split("#")[0].partition(":")[0].strip()
+        if not name:
+            continue
         said = "".join(log.read_text() for log in TOP.glob(f"target/log/{name}.*"))
-        if "logic=proved" not in said:
+        proved = re.findall(r"^logic=proved .*$", said, re.M)
+        rests = {axiom for axioms in re.findall(r"^axioms \S+ (.*?) \(", said, re.M) for axiom in axioms.split(", ")}
+        counted = re.findall(r" axioms=(\d+)", said)
+        if not proved:
             yield f"{name} is not known to be proved"
-        elif not above_c(name) and re.search(r"\b(?:axioms|foreign)=", said):
-            yield f"{name} rests on an assumed contract"
+        if rests != ASSUMED.get(name, set()) or set(counted) != ({str(len(rests))} if rests else set()) or " foreign=" in said:
+            yield f"{name} rests on {sorted(rests)}, counted as {counted}"
 
 
 LOOKS = {"public": public, "documents": documents, "assumed": assumed}
