@@ -1,6 +1,5 @@
 -- What a configuration leads to is what it is after some list of events: so what an opening leads to is a run, and nothing else.
 -- Assumes nothing.
-use Prim.Native.Nat.{ℕ}
 use mathlib.Core.Path.{_≡_, refl, ap, _∙_}
 use mathlib.Core.List.{List, [], _∷_, _++_}
 use Rattle.rounds.specs.declared.Event.{Event}

@@ -1,6 +1,6 @@
 -- What words show of a process where neither its words nor what the configuration holds of it change; and so what a change that is about
 -- one process alone leaves of all the others. Assumes nothing.
-use Prim.Native.Nat.{ℕ, _+_, _-_, _≤_, _<_}
+use Prim.Native.Nat.{ℕ, _+_, _≤_, _<_}
 use native.Mathlib.Omega.{arith}
 use native.Mathlib.Decide.{ℕ-discrete}
 use mathlib.Core.Path.{_≡_, refl, sym, ap, _∙_, subst}
@@ -12,7 +12,7 @@ use Rattle.rounds.specs.declared.Stage.{Stage}
 use Rattle.rounds.specs.declared.Stage.the-variants.{Sending, Collecting, Pending, Idle}
 use Rattle.rounds.specs.Limits.{mostProcesses, window}
 use Rattle.rounds.specs.Run.{Site, Control, Content}
-use Rattle.rounds.specs.Stages.{sentToAll, heardFromAll, waited, stage, index, one}
+use Rattle.rounds.specs.Stages.{sentToAll, heardFromAll, waited, stage, index}
 use Rattle.rounds.specs.Claims.{Live}
 use Rattle.rounds.specs.Claims.Live.{waiting, taken}
 use Rattle.words.specs.Layout.{Mem, line, letter, Place, Line, Transit, Mail, get, Write, writes, SIZE, EVENTS, VALUE, VOTED, VOTE, DECIDED, DECISION, ROUND, SENT, HEARD, REACH, SINCE, COUNTS, CARRIED}

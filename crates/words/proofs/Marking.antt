@@ -14,7 +14,7 @@ use Rattle.rounds.specs.Claims.Live.{waiting, taken}
 use Rattle.rounds.proofs.Updates.{at-one, at-same, at-other}
 use Rattle.words.specs.Layout.{Mem, Line, Transit, Mail, get, Write, _:=_, writes, ROUND, SENT, HEARD, REACH, SINCE, COUNTS}
 use Rattle.words.specs.Spelled.{siteOf}
-use Rattle.words.specs.Calls.{marked, sent}
+use Rattle.words.specs.Calls.{marked}
 use Rattle.words.specs.Shows.{ShowsProcess, Shown}
 use Rattle.words.proofs.Places.{Inside, kept, wrote}
 use Rattle.words.proofs.Frames.{index-small, holding-kept, message-kept, carried-kept, changed}

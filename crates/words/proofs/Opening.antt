@@ -11,7 +11,7 @@ use Rattle.sets.specs.Sets.{empty, with}
 use Rattle.voting.specs.Voting.{opens}
 use Rattle.rounds.specs.Limits.{mostProcesses}
 use Rattle.rounds.specs.Run.{openControl, openContent}
-use Rattle.rounds.specs.Stages.{index, one}
+use Rattle.rounds.specs.Stages.{index}
 use Rattle.rounds.proofs.Live.{open-silent}
 use Rattle.words.specs.Layout.{Mem, RUN, heads, line, Place, Head, Line, Transit, at, get, Write, _:=_, writes, SIZE, EVENTS, VALUE, VOTED, DECIDED, ROUND, SENT, HEARD, REACH, SINCE, COUNTS}
 use Rattle.words.specs.Spelled.{choice, siteOf, holdingOf}

@@ -10,7 +10,6 @@ use lib.Dec.{lit<}
 use Rattle.sets.specs.Sets.{has, with}
 use Rattle.sets.proofs.Membership.{with-cases}
 use Rattle.voting.specs.declared.Message.{Message}
-use Rattle.voting.specs.Voting.{message}
 use Rattle.rounds.specs.Limits.{mostProcesses, window}
 use Rattle.rounds.specs.Run.{Control, Content, at₂, at₃, at}
 use Rattle.rounds.specs.Stages.{index}

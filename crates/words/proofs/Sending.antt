@@ -4,7 +4,6 @@ use Prim.Native.Nat.{ℕ, _+_, _≤_, _<_}
 use native.Mathlib.Omega.{arith}
 use mathlib.Core.Path.{_≡_, refl, ap, _∙_}
 use mathlib.Core.Bool.{Bool, true, false, cond}
-use Rattle.sets.specs.Sets.{has}
 use Rattle.voting.specs.Voting.{message}
 use Rattle.rounds.specs.Limits.{window}
 use Rattle.rounds.specs.Run.{Control, Content}
@@ -18,7 +17,6 @@ use Rattle.words.specs.Layout.{Mem, Line, get, writes, VALUE, VOTED, VOT
 use Rattle.words.specs.Spelled.{choice, holdingOf}
 use Rattle.words.specs.Calls.{settled, begun, fate, marked, posted, delivered, sent}
 use Rattle.words.specs.Shows.{Shown}
-use Rattle.words.proofs.Places.{kept}
 use Rattle.words.proofs.Marking.{marks, marks-round, marks-reach, marks-fit, mark-shows, mark-since}
 use Rattle.words.proofs.Posting.{posts, mails, postings, post-shows}
 use Rattle.words.proofs.Settling.{round-word, reach-word, Fit, tick-fit, settled-shows, settled-since, since-stays, begun-shows}

@@ -10,7 +10,7 @@ use Rattle.rounds.specs.Verdicts.{numberOf, openVerdict, verdict}
 use Rattle.rounds.specs.Run.{Control, Config}
 use Rattle.rounds.specs.Events.{ifAccepted, apply}
 use Rattle.rounds.specs.Runs.{told}
-use Rattle.rounds.specs.Examples.{run, equal, numbers, lines, roundOfTwo, alone, sevenAndFour, sevenFourTwo, oneOneZero, apart, together, split, whole, trace1, overtaken}
+use Rattle.rounds.specs.Examples.{run, equal, lines, roundOfTwo, alone, sevenAndFour, sevenFourTwo, oneOneZero, apart, together, split, whole, trace1, overtaken}
 use Rattle.words.specs.declared.Answer.{Answer}
 use Rattle.words.specs.declared.Standing.{Standing}
 use Rattle.words.specs.Layout.{Mem, get, put}
