@@ -17,6 +17,10 @@ use Rattle.voting.specs.Voting.{orElse, valueOr, lesser, same, least, al
 pub absent-present : {x : ℕ} → Absent ≡ Present x → ⊥
 absent-present e = let z : _≡_ {A = ℕ} 0 1 = cc in omega arith
 
+never-present : (c : Choice) → ((x : ℕ) → c ≡ Present x → ⊥) → c ≡ Absent
+never-present Absent none = refl
+never-present (Present x) none = absurd (none x refl)
+
 -- ---- the least
 -- where y is among them, there is a least, at most y
 least-some : (cs : List Choice) (y : ℕ) → Among (Present y) cs → (z : ℕ) × (least cs ≡ Present z) × (z ≤ y)
@@ -106,18 +110,10 @@ each-agreed [] x m a = absurd (not-nil m)
 each-agreed (c ∷ cs) x m a = rw (a c (head refl), each-all-same x cs (λ k n. a k (tail n)))
 
 pub agreed-differ : (cs : List Choice) (c d : Choice) → Among c cs → Among d cs → (c ≡ d → ⊥) → agreed cs ≡ Absent
-agreed-differ cs c d m n differ = go (agreed cs) refl
-  where
-    go : (a : Choice) → agreed cs ≡ a → agreed cs ≡ Absent
-    go Absent e = e
-    go (Present x) e = absurd (differ (agreed-each cs x e c m ∙ sym (agreed-each cs x e d n)))
+agreed-differ cs c d m n differ = never-present (agreed cs) (λ x e. differ (agreed-each cs x e c m ∙ sym (agreed-each cs x e d n)))
 
 pub agreed-absent : (cs : List Choice) → Among Absent cs → agreed cs ≡ Absent
-agreed-absent cs m = go (agreed cs) refl
-  where
-    go : (a : Choice) → agreed cs ≡ a → agreed cs ≡ Absent
-    go Absent e = e
-    go (Present x) e = absurd (absent-present (agreed-each cs x e Absent m))
+agreed-absent cs m = never-present (agreed cs) (λ x e. absent-present (agreed-each cs x e Absent m))
 
 -- ---- what the messages heard say
 -- each of the values is that of a message heard
@@ -228,13 +224,9 @@ module _ (r : ℕ) (h : Holding) (ms : List Message) (o : odd r ≡ false) where
       rw (even-is, s .1) (s .2, vote-heard ms (Present (s .0)) (least-heard (votes ms) (s .0) (s .1)))
 
   no-least : ((k : Message) → Among k ms → k .vote ≡ Absent) → least (votes ms) ≡ Absent
-  no-least plain = go (least (votes ms)) refl
-    where
-      go : (c : Choice) → least (votes ms) ≡ c → least (votes ms) ≡ Absent
-      go Absent e = e
-      go (Present x) e =
-          let k = vote-heard ms (Present x) (least-heard (votes ms) x e) in
-          absurd (absent-present (sym (plain (k .0) (k .1)) ∙ k .2))
+  no-least plain =
+      never-present (least (votes ms))
+      (λ x e. let k = vote-heard ms (Present x) (least-heard (votes ms) x e) in absent-present (sym (plain (k .0) (k .1)) ∙ k .2))
 
   -- the least value heard: at most each value heard, and the value of a message heard
   pub even-value-plain : {m : Message} → Among m ms → ((k : Message) → Among k ms → k .vote ≡ Absent)
