@@ -56,18 +56,11 @@ pub has-union : (a b k : ℕ) → has (union a b) k ≡ (has a k || has b k)
 unfolding union
 has-union = digitwise bitOr _||_ or-shr or-mod (digits (λ x y. eqb (bitOr x y) 1 ≡ (eqb x 1 || eqb y 1)) refl refl refl refl)
 
-or-cases : (a b : Bool) → (a || b) ≡ true → (a ≡ true) ⊎ (b ≡ true)
-or-cases true b t = inl refl
-or-cases false b t = inr t
-
 pub in-left : (a b k : ℕ) → has a k ≡ true → has (union a b) k ≡ true
 in-left a b k h = has-union a b k ∙ ap (λ (x : Bool). x || has b k) h
 
 pub in-right : (a b k : ℕ) → has b k ≡ true → has (union a b) k ≡ true
 in-right a b k h = has-union a b k ∙ ap (λ (x : Bool). has a k || x) h ∙ or-true (has a k)
-
-pub union-cases : (a b k : ℕ) → has (union a b) k ≡ true → (has a k ≡ true) ⊎ (has b k ≡ true)
-union-cases a b k h = or-cases (has a k) (has b k) (sym (has-union a b k) ∙ h)
 
 -- ---- one process
 pub has-power : (k j : ℕ) → has (2 ^ k) j ≡ eqb j k
@@ -92,6 +85,10 @@ with-kept s k j h = has-with s k j ∙ ap (λ (b : Bool). b || eqb j k) h
 
 pub with-other : (s k j : ℕ) → (j ≡ k → ⊥) → has (with s k) j ≡ has s j
 with-other s k j n = has-with s k j ∙ ap (λ (b : Bool). has s j || b) (ne-eqb j k n) ∙ or-false (has s j)
+
+or-cases : (a b : Bool) → (a || b) ≡ true → (a ≡ true) ⊎ (b ≡ true)
+or-cases true b t = inl refl
+or-cases false b t = inr t
 
 pub with-cases : (s k j : ℕ) → has (with s k) j ≡ true → (has s j ≡ true) ⊎ (j ≡ k)
 unfolding ⊎-map

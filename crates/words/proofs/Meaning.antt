@@ -27,7 +27,7 @@ use Rattle.rounds.proofs.Running.{apply-accepted, apply-refused}
 use Rattle.words.specs.declared.Answer.{Answer}
 use Rattle.words.specs.declared.Answer.the-variants.{Judged}
 use Rattle.words.specs.declared.Standing.{Standing}
-use Rattle.words.specs.Layout.{Mem, get, Head, EVENTS}
+use Rattle.words.specs.Layout.{Mem}
 use Rattle.words.specs.Spelled.{people, controlOf}
 use Rattle.words.specs.Calls.{blank, opened, begins, sentBelow, done, applied, answer, standingOf}
 use Rattle.words.specs.Shows.{Shown, Shows, Meant, Given, standing}
@@ -38,7 +38,7 @@ use Rattle.words.proofs.Stepping.{stepped-shows}
 use Rattle.words.proofs.Fitting.{fit, round-top, beyond-empty}
 use Rattle.words.proofs.Answering.{verdict-shown, answer-shown}
 use Rattle.words.proofs.Opening.{blank-shown, opened-shown}
-use Rattle.words.proofs.Reading.{size-means, events-means, site-means}
+use Rattle.words.proofs.Reading.{size-means, site-means}
 
 -- ---- an accepted event
 module _ (m : Mem) (c : Control) (d : Content) (v : ℕ → ℕ) {rs : List Report} (l : Reached (c .size) v c d rs) (few : c .size ≤ mostProcesses)
@@ -146,9 +146,6 @@ clear-meant x = (x, rw x blank-shows)
 
 pub size-meant : (m : Mem) {r : ℕ} → r ≡ people m → (r ≡ people m) × ((c : Config) → Shows m c → r ≡ c .control .size)
 size-meant m x = (x, λ c k. x ∙ size-means m c k)
-
-pub events-meant : (m : Mem) {r : ℕ} → r ≡ get m (Head EVENTS) → (r ≡ get m (Head EVENTS)) × ((c : Config) → Shows m c → r ≡ c .control .events)
-events-meant m x = (x, λ c k. x ∙ events-means m c k)
 
 pub site-meant : (m : Mem) (p : ℕ) {r : Standing} → r ≡ standingOf m p
     → (r ≡ standingOf m p) × ((c : Config) → Shows m c → p < c .control .size → r ≡ standing c p)
