@@ -63,7 +63,7 @@ pub in-right : (a b k : ℕ) → has b k ≡ true → has (union a b) k ≡ true
 in-right a b k h = has-union a b k ∙ ap (λ (x : Bool). has a k || x) h ∙ or-true (has a k)
 
 -- ---- one process
-pub has-power : (k j : ℕ) → has (2 ^ k) j ≡ eqb j k
+has-power : (k j : ℕ) → has (2 ^ k) j ≡ eqb j k
 unfolding has
 has-power zero zero = refl
 has-power zero (suc j) = ap (λ (x : ℕ). eqb (x % 2) 1) (div-eq-of-lt (pow-lt {i = 0} {j = suc j} (omega arith))) ∙ sym (eqb·suc-zero j)

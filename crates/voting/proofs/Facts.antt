@@ -132,7 +132,7 @@ value-heard ms x a =
     let s = value-some ms (Present x) a in
     (s .0, s .1, cc)
 
-pub heard-value : {ms : List Message} {m : Message} → Among m ms → Among (Present (m .value)) (values ms)
+heard-value : {ms : List Message} {m : Message} → Among m ms → Among (Present (m .value)) (values ms)
 unfolding values
 heard-value (head e) = head (ap (λ (m : Message). Present (m .value)) e)
 heard-value (tail n) = tail (heard-value n)
@@ -147,7 +147,7 @@ vote-heard (m ∷ ms) c a = go (cases-cons a) (vote-heard ms c)
     go (inl e) ih = (m, head refl, sym e)
     go (inr n) ih = (ih n .0, tail (ih n .1), ih n .2)
 
-pub heard-vote : {ms : List Message} {m : Message} → Among m ms → Among (m .vote) (votes ms)
+heard-vote : {ms : List Message} {m : Message} → Among m ms → Among (m .vote) (votes ms)
 unfolding votes
 heard-vote (head e) = head (ap (λ (m : Message). m .vote) e)
 heard-vote (tail n) = tail (heard-vote n)

@@ -88,7 +88,7 @@ module _ (c e : Control) (d f : Content) (x : ℕ) (size : e .size ≡ c .size) 
   live-alike r q (waiting t) = waiting (subst (λ (s : ℕ → ℕ). has (s r) q ≡ true) (a .transit) t)
   live-alike r q (taken h t) = taken (h ∙ ap (λ (s : Site). s .round) (a .site)) (subst (λ (s : Site). has (s .heard) q ≡ true) (a .site) t)
 
-  pub alike-shows : (m : Mem) → ShowsProcess m c d x → ShowsProcess m e f x
+  alike-shows : (m : Mem) → ShowsProcess m c d x → ShowsProcess m e f x
   alike-shows m k =
       record {
         site = k .site ∙ sym (a .site);

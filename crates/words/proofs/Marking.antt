@@ -41,7 +41,7 @@ module _ (c : Control) (p q : ℕ) where
   unfolding marks
   marks-reach = at-one (λ x s. s .reach ≡ c .site x .reach) (c .site) p _ refl (λ x. refl)
 
-  pub marks-live : (x r y : ℕ) → Live (marks c p q) x r y → Live c x r y
+  marks-live : (x r y : ℕ) → Live (marks c p q) x r y → Live c x r y
   unfolding marks
   marks-live x r y (waiting t) = waiting t
   marks-live x r y (taken e t) =

@@ -95,7 +95,7 @@ tick-process m c d x k =
       count = λ s. rw (tick-stage c x) (one-more _ _ _ (c .events) _ (k .past) (k .count s));
     }
 
-pub counted-shows : (m : Mem) (c : Control) (d : Content) → Fit c → c .events < mostEvents → Shown m c d → Shown (counted m) (tick c) d
+counted-shows : (m : Mem) (c : Control) (d : Content) → Fit c → c .events < mostEvents → Shown m c d → Shown (counted m) (tick c) d
 unfolding counted tick
 counted-shows m c d f more k =
     let v = word (get m (Head EVENTS) + 1) in
