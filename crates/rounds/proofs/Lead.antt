@@ -19,10 +19,8 @@ use Rattle.rounds.proofs.Kept.{Kept}
 abbrev Near : ℕ → ℕ → Site → ℕ → Site → Type 0
 Near n x s y t = x < n → y < n → (s .round ≤ t .round + window) × (has (s .sent) y ≡ true → s .round < t .round + window)
 
-abbrev pub Led : Control → Type 0
-Led c =
-    (x y : ℕ) → x < c .size → y < c .size
-    → (c .site x .round ≤ c .site y .round + window) × (has (c .site x .sent) y ≡ true → c .site x .round < c .site y .round + window)
+abbrev Led : Control → Type 0
+Led c = (x y : ℕ) → Near (c .size) x (c .site x) y (c .site y)
 
 send-led : (c : Control) (p q : ℕ) → Sends c p q → Led c → Led (sendControl (tick c) p q)
 unfolding sendControl tick

@@ -29,10 +29,10 @@ size-stays {c₀ = c₀} l =
     l refl
 
 -- ---- rounds and events
-abbrev InRounds : Site → Type 0
+abbrev pub InRounds : Site → Type 0
 InRounds s = (1 ≤ s .round) × (s .round ≤ lastRound)
 
-pub rounds-kept : Kept (λ c d. (x : ℕ) → (1 ≤ c .site x .round) × (c .site x .round ≤ lastRound))
+pub rounds-kept : Kept (λ c d. (x : ℕ) → InRounds (c .site x))
 unfolding sendControl receiveControl stepControl tick
 rounds-kept =
     record {
@@ -52,11 +52,11 @@ events-kept =
     }
 
 -- ---- the window: nothing is in transit for a round before the receiver's, or 8 and more after it
-abbrev pub Window : Control → Type 0
-Window c = (x r : ℕ) → (r < c .site x .round → c .transit x r ≡ empty) × (c .site x .round + window ≤ r → c .transit x r ≡ empty)
-
 abbrev Shut : ℕ → ℕ → ℕ → Type 0
 Shut round r t = (r < round → t ≡ empty) × (round + window ≤ r → t ≡ empty)
+
+abbrev pub Window : Control → Type 0
+Window c = (x r : ℕ) → Shut (c .site x .round) r (c .transit x r)
 
 pub timely-lead : (r s : ℕ) → timely r s ≡ true → (s ≤ r) × (r < s + window)
 unfolding timely

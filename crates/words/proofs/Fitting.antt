@@ -15,7 +15,7 @@ use Rattle.rounds.specs.Leads.{Reached}
 use Rattle.rounds.specs.Claims.{total}
 use Rattle.rounds.specs.Claims.Live.{waiting, taken}
 use Rattle.rounds.proofs.Kept.{Kept, kept}
-use Rattle.rounds.proofs.Limits.{rounds-kept, events-kept, Window, window-kept, open-window, in-window, Within, within-kept, open-within}
+use Rattle.rounds.proofs.Limits.{InRounds, rounds-kept, events-kept, Window, window-kept, open-window, in-window, Within, within-kept, open-within}
 use Rattle.rounds.proofs.Counts.{total-kept}
 use Rattle.words.proofs.Frames.{Near}
 use Rattle.words.proofs.Settling.{Fit}
@@ -59,7 +59,7 @@ module _ (n : ℕ) (v : ℕ → ℕ) {c : Control} {d : Content} {rs : List Repo
 
   pub round-top : (x : ℕ) → c .site x .round ≤ lastRound
   unfolding openControl
-  round-top x = throughout (λ c. (x : ℕ) → (1 ≤ c .site x .round) × (c .site x .round ≤ lastRound)) rounds-kept (λ x. (omega arith, omega arith)) x .1
+  round-top x = throughout (λ c. (x : ℕ) → InRounds (c .site x)) rounds-kept (λ x. (omega arith, omega arith)) x .1
 
   -- nothing is in transit for the round that will get the place of the present one
   pub beyond-empty : (x : ℕ) → c .transit x (c .site x .round + window) ≡ empty
