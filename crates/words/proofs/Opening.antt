@@ -32,12 +32,16 @@ blank-length = length-replicate {A = ℕ} RUN 0
 abbrev Blank : Mem → ℕ → Type 0
 Blank m x = (a : Place) → Of x a → In a → get m a ≡ 0
 
+-- a word of a line that an opening does not write
+abbrev Unwritten : ℕ → Type 0
+Unwritten k = (k < line) × (k ≡ VALUE → ⊥) × (k ≡ ROUND → ⊥) × (k ≡ REACH → ⊥)
+
 -- the words of x are those of a process that opens with the value v
 record Fresh (m : Mem) (x v : ℕ) : Type 0 where
   value : get m (Line x VALUE) ≡ v
   round : get m (Line x ROUND) ≡ 1
   reach : get m (Line x REACH) ≡ with empty x
-  others : (k : ℕ) → k < line → (k ≡ VALUE → ⊥) → (k ≡ ROUND → ⊥) → (k ≡ REACH → ⊥) → get m (Line x k) ≡ 0
+  others : (k : ℕ) → Unwritten k → get m (Line x k) ≡ 0
   transit : (r : ℕ) → get m (Transit x r) ≡ 0
 
 module _ (m : Mem) (p v : ℕ) (long : length m ≡ RUN) (hp : p < mostProcesses) where
@@ -55,7 +59,7 @@ module _ (m : Mem) (p v : ℕ) (long : length m ≡ RUN) (hp : p < mostProcesses
         value = wrote m placing fine 0 (lit< tt) long (omega arith);
         round = wrote m placing fine 1 (lit< tt) long (omega arith);
         reach = wrote m placing fine 2 (lit< tt) long (omega arith);
-        others = λ k h n₀ n₁ n₂. kept m placing fine (Line p k) (omega arith) ∙ b (Line p k) refl (hp, h);
+        others = λ k u. kept m placing fine (Line p k) (omega arith) ∙ b (Line p k) refl (hp, u .0);
         transit = λ r. kept m placing fine (Transit p r) (omega arith) ∙ b (Transit p r) refl hp;
       }
 
@@ -107,37 +111,24 @@ module _ (xs : List ℕ) (m : Mem) (long : length m ≡ RUN) (clear : (x : ℕ) 
             value = same (Line x VALUE) refl (omega arith, lit< tt) ∙ was .value;
             round = same (Line x ROUND) refl (omega arith, lit< tt) ∙ was .round;
             reach = same (Line x REACH) refl (omega arith, lit< tt) ∙ was .reach;
-            others = λ i t n₀ n₁ n₂. same (Line x i) refl (omega arith, t) ∙ was .others i t n₀ n₁ n₂;
+            others = λ i u. same (Line x i) refl (omega arith, u .0) ∙ was .others i u;
             transit = λ r. same (Transit x r) refl (omega arith) ∙ was .transit r;
           }
 
 -- ---- such words show a process that opens
 module _ (m : Mem) (n x : ℕ) (v : ℕ → ℕ) (f : Fresh m x (v x)) where
-  -- a word of the line that is none of the three
-  abbrev zero-at : (k : ℕ) → k < line → (k ≡ VALUE → ⊥) → (k ≡ ROUND → ⊥) → (k ≡ REACH → ⊥) → get m (Line x k) ≡ 0
-  zero-at = f .others
-
   since-zero : get m (Line x SINCE) ≡ 0
-  since-zero = zero-at SINCE (lit< tt) (λ e. omega arith) (λ e. omega arith) (λ e. omega arith)
+  since-zero = f .others SINCE (omega arith)
 
   fresh-site : siteOf m x ≡ openControl n .site x
   unfolding openControl siteOf
   fresh-site =
-      rw (
-        f .round,
-        zero-at SENT (lit< tt) (λ e. omega arith) (λ e. omega arith) (λ e. omega arith),
-        zero-at HEARD (lit< tt) (λ e. omega arith) (λ e. omega arith) (λ e. omega arith),
-        f .reach,
-      )
+      rw (f .round, f .others SENT (omega arith), f .others HEARD (omega arith), f .reach)
 
   fresh-holding : holdingOf m x ≡ openContent v .holding x
   unfolding openContent holdingOf opens choice
   fresh-holding =
-      rw (
-        f .value,
-        zero-at VOTED (lit< tt) (λ e. omega arith) (λ e. omega arith) (λ e. omega arith),
-        zero-at DECIDED (lit< tt) (λ e. omega arith) (λ e. omega arith) (λ e. omega arith),
-      )
+      rw (f .value, f .others VOTED (omega arith), f .others DECIDED (omega arith))
 
   fresh-shows : ShowsProcess m (openControl n) (openContent v) x
   unfolding openControl openContent
@@ -149,8 +140,7 @@ module _ (m : Mem) (n x : ℕ) (v : ℕ → ℕ) (f : Fresh m x (v x)) where
         mail = λ r q l. absurd (open-silent n x r q l);
         carried = λ r q l. absurd (open-silent n x r q l);
         past = rw since-zero (lit≤ tt);
-        count = λ s. let small = index-small s in
-            rw (zero-at (COUNTS + index s) (omega arith) (λ e. omega arith) (λ e. omega arith) (λ e. omega arith), since-zero) (omega arith);
+        count = λ s. let small = index-small s in rw (f .others (COUNTS + index s) (omega arith), since-zero) (omega arith);
       }
 
 -- ---- a memory of zeros: there is no process
@@ -170,7 +160,7 @@ unfolding opened openControl
 opened-shown n xs v few given =
     record {
       long = below-length xs headed headed-long clear n few;
-      size = below-head xs headed headed-long clear n few SIZE (lit< tt) ∙ wrote blank heading (omega arith) 0 (lit< tt) blank-long (omega arith);
+      size = below-head xs headed headed-long clear n few SIZE (lit< tt) ∙ wrote blank heading (omega arith) 0 (lit< tt) blank-length (omega arith);
       events =
           below-head xs headed headed-long clear n few EVENTS (lit< tt)
           ∙ kept blank heading (omega arith) (Head EVENTS) (omega arith)
@@ -184,13 +174,10 @@ opened-shown n xs v few given =
     heading = Head SIZE := n ∷ []
 
     headed : Mem
-    headed = writes blank (Head SIZE := n ∷ [])
-
-    blank-long : length blank ≡ RUN
-    blank-long = blank-length
+    headed = writes blank heading
 
     headed-long : length headed ≡ RUN
-    headed-long = writes-length blank (Head SIZE := n ∷ []) ∙ blank-length
+    headed-long = writes-length blank heading ∙ blank-length
 
     clear : (x : ℕ) → Blank headed x
     clear x a u i = head-only blank SIZE n (lit< tt) x a u i ∙ blank-zero a i
