@@ -94,7 +94,7 @@ module _ (c : Control) (p : ℕ) where
 
 -- ---- what is sent stays sent
 -- a site has sent to x for round r: that round is over, or it is the present one and x is in the sent set
-abbrev pub Sent : ℕ → ℕ → Site → Type 0
+abbrev Sent : ℕ → ℕ → Site → Type 0
 Sent x r s = (r ≤ s .round) × (r ≡ s .round → has (s .sent) x ≡ true)
 
 sent-kept : (x r y : ℕ) → Kept (λ c d. Sent x r (c .site y))

@@ -51,7 +51,7 @@ abbrev pub Near : Control → Type 0
 Near c = (x r q : ℕ) → Live c x r q → (q < mostProcesses) × (c .site x .round ≤ r) × (r < c .site x .round + window)
 
 -- ---- all words of x are the same
-abbrev pub SameWords : Mem → Mem → ℕ → Type 0
+abbrev SameWords : Mem → Mem → ℕ → Type 0
 SameWords m b x = (a : Place) → Of x a → In a → get b a ≡ get m a
 
 pub words-same : (m b : Mem) (x : ℕ) → x < mostProcesses → SameWords m b x → (c : Control) (d : Content) → Near c

@@ -18,7 +18,7 @@ In (Transit p r) = p < mostProcesses
 In (Mail p r q k) = (p < mostProcesses) × (q < mostProcesses) × (k < letter)
 
 -- two places are not one
-abbrev pub Apart : Place → Place → Type 0
+abbrev Apart : Place → Place → Type 0
 Apart (Head k) (Head j) = k ≡ j → ⊥
 Apart (Line p k) (Line q j) = p ≡ q → k ≡ j → ⊥
 Apart (Transit p r) (Transit q s) = p ≡ q → r % window ≡ s % window → ⊥
@@ -85,7 +85,7 @@ Inside [] = Unit {0}
 Inside (w ∷ ws) = In (w .place) × Inside ws
 
 -- the place is one of a run and none of theirs: `omega` proves it whole
-abbrev pub Away : Place → List Write → Type 0
+abbrev Away : Place → List Write → Type 0
 Away a [] = In a
 Away a (w ∷ ws) = Apart a (w .place) × Away a ws
 
