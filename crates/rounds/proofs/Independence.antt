@@ -18,9 +18,8 @@ use Rattle.rounds.specs.Events.{timely, sendControl, sendContent, receiv
 use Rattle.rounds.specs.Runs.{after, verdicts, Report, told, reports, replayVerdict}
 use Rattle.rounds.specs.Claims.{Agree}
 use Rattle.rounds.proofs.Updates.{at-one, at-all, at₃-all}
-use Rattle.rounds.proofs.Leading.{leads}
-use Rattle.rounds.proofs.Reach.{gathered-keeps, reach-grows}
-use Rattle.rounds.proofs.Running.{after-append}
+use Rattle.rounds.proofs.Reach.{gathered-keeps}
+use Rattle.rounds.proofs.InRuns.{reach-grows-in}
 
 -- ---- the first half: no test and no control part looks at the content
 control-only : (c : Control) (d e : Content) (es : List Event)
@@ -162,4 +161,4 @@ pub same-holding : (n : ℕ) (v w : ℕ → ℕ) (es later : List Event) (p : �
 unfolding opening
 same-holding n v w es later p a =
     after-alike v w (openControl n) (openContent v) (openContent w) es (open-alike v w n) .holding p
-    (λ q t. a q (rw (after-append (opening n v) es later) (reach-grows (leads (after (opening n v) es) later) p q t)))
+    (λ q t. a q (reach-grows-in n v es later p q t))
