@@ -64,22 +64,17 @@ module _ (c : Config) (p q : ℕ) (a : accepted (verdict (c .control) (Send p q)
       × (apply c (Send p q) .content .mail q (c .control .site p .round) p ≡ message (c .content .holding p))
       × (apply c (Send p q) .control .carried q (c .control .site p .round) p ≡ c .control .site p .reach)
   unfolding nextControl nextContent
-  posts-kept low high = (
-    ap (λ (b : Config). has (b .control .transit q (c .control .site p .round)) p) (apply-accepted c (Send p q) a)
-        ∙ put-in-transit (c .control) (c .content) p q low high,
-    ap (λ (b : Config). b .content .mail q (c .control .site p .round) p) (apply-accepted c (Send p q) a)
-        ∙ put-in-mail (c .control) (c .content) p q low high,
-    ap (λ (b : Config). b .control .carried q (c .control .site p .round) p) (apply-accepted c (Send p q) a)
-        ∙ put-with-reach (c .control) (c .content) p q low high,
-  )
+  posts-kept low high =
+      let d = c .content in
+      rw (apply-accepted c (Send p q) a)
+      (put-in-transit (c .control) d p q low high, put-in-mail (c .control) d p q low high, put-with-reach (c .control) d p q low high)
 
   pub posts-late : c .control .site p .round < c .control .site q .round
       → (apply c (Send p q) .control .transit ≡ c .control .transit) × (apply c (Send p q) .content .mail ≡ c .content .mail)
   unfolding nextControl nextContent
-  posts-late late = (
-    ap (λ (b : Config). b .control .transit) (apply-accepted c (Send p q) a) ∙ late-transit (c .control) (c .content) p q late,
-    ap (λ (b : Config). b .content .mail) (apply-accepted c (Send p q) a) ∙ late-mail (c .control) (c .content) p q late,
-  )
+  posts-late late =
+      rw (apply-accepted c (Send p q) a)
+      (late-transit (c .control) (c .content) p q late, late-mail (c .control) (c .content) p q late)
 
 -- ---- a step
 same-messages : (qs : List ℕ) (f g : ℕ → Message) → ((q : ℕ) → Among q qs → f q ≡ g q) → messages qs f ≡ messages qs g
