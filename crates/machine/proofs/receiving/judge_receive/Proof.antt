@@ -1,8 +1,13 @@
 -- `judge_receive` makes the tests of its definition, in the same order.
 -- Assumes nothing.
 use Prim.Native.Nat.{_+_}
+use mathlib.Core.Path.{_≡_}
+use mathlib.Core.Bool.{not}
 use native.Mathlib.Omega.{arith}
 use borrow.Author.Tests.{lt-ltb, le-ltb, le-leb, lt-leb}
+use Rattle.rounds.specs.declared.Event.the-variants.{Receive}
+use Rattle.rounds.specs.declared.Verdict.the-variants.{Accepted, NothingInTransit}
+use Rattle.rounds.specs.Limits.{mostEvents}
 use Rattle.rounds.specs.Verdicts.{refuse, outside, crowded, receiveVerdict, verdict}
 use Rattle.words.specs.Spelled.{siteOf, controlOf}
 use borrow.Author.Needs.{needs}
@@ -31,7 +36,7 @@ returns-3 c =
       lt-leb _ _ (c .before .before .before .if1 .left),
       lt-leb _ _ (c .before .before .if2 .left),
       ← c .before .head .ensures,
-      lt-ltb 1000000 (c .before .head .result + 1) (omega arith),
+      lt-ltb mostEvents (c .before .head .result + 1) (omega arith),
     )
 
 line-requires : tie.Need-line-requires
@@ -43,37 +48,31 @@ transit-requires c κs = search needs
 has-requires : tie.Need-has-requires
 has-requires c κs = search needs
 
-returns-4 : tie.Need-returns-4
+-- after the first tests, what is in transit decides
+by-transit : (c : tie.After-has)
+    → (let a = c .before .before .before .before .before .before .before .before .args in verdict (controlOf (a .run .now)) (Receive (a .p) (a .q)))
+    ≡ refuse (not (c .has .result)) NothingInTransit Accepted
 unfolding verdict receiveVerdict outside crowded refuse controlOf siteOf
-returns-4 c =
-    let c5 = c .before .before .before .before .before in
+by-transit c =
+    let c4 = c .before .before .before .before in
     rw (
-      ← c5 .before .before .before .people .ensures .0,
-      lt-leb _ _ (c5 .before .before .if1 .left),
-      lt-leb _ _ (c5 .before .if2 .left),
-      ← c5 .head .ensures,
-      le-ltb 1000000 (c5 .head .result + 1) (omega arith),
-      ← c .before .before .before .line .ensures,
-      ← c .before .before .transit .ensures,
-      ← c .before .has .ensures,
-      c .if4 .taken,
+      ← c4 .before .before .before .people .ensures .0,
+      lt-leb _ _ (c4 .before .before .if1 .left),
+      lt-leb _ _ (c4 .before .if2 .left),
+      ← c4 .head .ensures,
+      le-ltb mostEvents (c4 .head .result + 1) (omega arith),
+      ← c .before .before .line .ensures,
+      ← c .before .transit .ensures,
+      ← c .has .ensures,
     )
 
+returns-4 : tie.Need-returns-4
+unfolding refuse
+returns-4 c = rw (by-transit (c .before), c .if4 .taken)
+
 returns-5 : tie.Need-returns-5
-unfolding verdict receiveVerdict outside crowded refuse controlOf siteOf
-returns-5 c =
-    let c5 = c .before .before .before .before .before in
-    rw (
-      ← c5 .before .before .before .people .ensures .0,
-      lt-leb _ _ (c5 .before .before .if1 .left),
-      lt-leb _ _ (c5 .before .if2 .left),
-      ← c5 .head .ensures,
-      le-ltb 1000000 (c5 .head .result + 1) (omega arith),
-      ← c .before .before .before .line .ensures,
-      ← c .before .before .transit .ensures,
-      ← c .before .has .ensures,
-      c .if4 .left,
-    )
+unfolding refuse
+returns-5 c = rw (by-transit (c .before), c .if4 .left)
 
 pub judge-receive-spec : {M : Type 1} → statement M
 judge-receive-spec =

@@ -6,6 +6,7 @@ use mathlib.Core.Bool.{Bool, true, false, cond, _&&_}
 use lib.Dec.{eqb, ltb, leb}
 use native.Mathlib.Omega.{arith}
 use borrow.Author.Tests.{ltb-true, eqb-true}
+use Rattle.rounds.specs.declared.Verdict.the-variants.{Accepted, TooFarAhead}
 use Rattle.rounds.specs.Limits.{window}
 use Rattle.rounds.specs.Verdicts.{refuse, ahead, sendVerdict}
 use Rattle.rounds.specs.Events.{timely}
@@ -54,6 +55,23 @@ line-requires-3 c κs = search needs
 fate-requires : tie.Need-fate-requires
 fate-requires c κs = search needs
 
+-- after the first test the fate of the message decides
+by-fate : (c : tie.After-fate) (f : Fate) → c .fate .result ≡ f
+    → (let a = c .before .before .before .before .before .before .args in sendVerdict (controlOf (a .run .now)) (a .p) (a .q))
+    ≡ refuse (refused f) TooFarAhead Accepted
+unfolding sendVerdict refuse controlOf siteOf
+by-fate c f e =
+    let c3 = c .before .before .before in
+    rw (
+      ← c3 .before .before .line .ensures,
+      ← c3 .before .has .ensures,
+      c3 .if1 .left,
+      ← c .before .before .line2 .ensures,
+      ← c .before .line3 .ensures,
+      ahead-fate _ _ _ (c .fate .ensures),
+      e,
+    )
+
 enum-told : tie.Need-enum-told
 enum-told c = search needs
 
@@ -64,46 +82,16 @@ enum-told-3 : tie.Need-enum-told-3
 enum-told-3 c = search needs
 
 returns-2 : tie.Need-returns-2
-unfolding sendVerdict refuse controlOf siteOf refused
-returns-2 c =
-    let c4 = c .before .before .before .before in
-    rw (
-      ← c4 .before .before .before .line .ensures,
-      ← c4 .before .before .has .ensures,
-      c4 .before .if1 .left,
-      ← c4 .line2 .ensures,
-      ← c .before .before .before .line3 .ensures,
-      ahead-fate _ _ _ (c .before .before .fate .ensures),
-      c .enum-told .given .1,
-    )
+unfolding refuse refused
+returns-2 c = rw (by-fate (c .before .before) Discarded (c .enum-told .given .1))
 
 returns-3 : tie.Need-returns-3
-unfolding sendVerdict refuse controlOf siteOf refused
-returns-3 c =
-    let c4 = c .before .before .before .before in
-    rw (
-      ← c4 .before .before .before .line .ensures,
-      ← c4 .before .before .has .ensures,
-      c4 .before .if1 .left,
-      ← c4 .line2 .ensures,
-      ← c .before .before .before .line3 .ensures,
-      ahead-fate _ _ _ (c .before .before .fate .ensures),
-      c .enum-told2 .given .1,
-    )
+unfolding refuse refused
+returns-3 c = rw (by-fate (c .before .before) Kept (c .enum-told2 .given .1))
 
 returns-4 : tie.Need-returns-4
-unfolding sendVerdict refuse controlOf siteOf refused
-returns-4 c =
-    let c4 = c .before .before .before .before in
-    rw (
-      ← c4 .before .before .before .line .ensures,
-      ← c4 .before .before .has .ensures,
-      c4 .before .if1 .left,
-      ← c4 .line2 .ensures,
-      ← c .before .before .before .line3 .ensures,
-      ahead-fate _ _ _ (c .before .before .fate .ensures),
-      c .enum-told3 .given .1,
-    )
+unfolding refuse refused
+returns-4 c = rw (by-fate (c .before .before) Refused (c .enum-told3 .given .1))
 
 pub judge-target-spec : {M : Type 1} → statement M
 judge-target-spec =

@@ -1,8 +1,12 @@
 -- `stage` makes the tests of its definition, in the same order.
 -- Assumes nothing.
+use mathlib.Core.Path.{_≡_}
+use mathlib.Core.Bool.{cond, not}
+use lib.Dec.{eqb}
 use borrow.Author.Tests.{eq-eqb, ne-eqb}
 use native.Mathlib.Omega.{arith}
 use Rattle.words.specs.Spelled.{siteOf, controlOf}
+use Rattle.rounds.specs.declared.Stage.the-variants.{Pending, Idle}
 use Rattle.rounds.specs.Stages.{sentToAll, waited, heardFromAll, stage, index}
 use borrow.Author.Needs.{needs}
 use Rattle.machine.proofs.spelled.stage.Statement.{statement}
@@ -54,43 +58,31 @@ returns-2 c =
 line-requires-3 : tie.Need-line-requires-3
 line-requires-3 c κs = search needs
 
-returns-3 : tie.Need-returns-3
-unfolding controlOf siteOf stage sentToAll waited heardFromAll index
-returns-3 c =
+-- after the first two tests, who was heard decides
+by-heard : (c : tie.After-line3)
+    → (let a = c .before .before .before .before .before .before .before .before .args in stage (controlOf (a .run .now)) (a .p))
+    ≡ cond (not (eqb (c .line3 .result) (c .before .before .before .before .before .before .everyone .result))) Pending Idle
+unfolding controlOf siteOf stage sentToAll waited heardFromAll
+by-heard c =
     let c4 = c .before .before .before .before in
-    let c8 = c4 .before .before .before .before in (
-      rw (
-        ← c4 .before .before .line .ensures,
-        ← c8 .people .ensures .0,
-        ← c4 .before .before .before .everyone .ensures,
-        eq-eqb _ _ (c4 .before .if1 .left),
-        ← c4 .line2 .ensures,
-        ← c .before .before .before .transit .ensures,
-        eq-eqb _ _ (c .before .before .if2 .left),
-        ← c .before .line3 .ensures,
-        ne-eqb _ _ (c .if3 .taken),
-      ),
-      omega arith,
+    rw (
+      ← c4 .before .line .ensures,
+      ← c4 .before .before .before .people .ensures .0,
+      ← c4 .before .before .everyone .ensures,
+      eq-eqb _ _ (c4 .if1 .left),
+      ← c .before .before .before .line2 .ensures,
+      ← c .before .before .transit .ensures,
+      eq-eqb _ _ (c .before .if2 .left),
+      ← c .line3 .ensures,
     )
 
+returns-3 : tie.Need-returns-3
+unfolding index
+returns-3 c = (rw (by-heard (c .before), ne-eqb _ _ (c .if3 .taken)), omega arith)
+
 returns-4 : tie.Need-returns-4
-unfolding controlOf siteOf stage sentToAll waited heardFromAll index
-returns-4 c =
-    let c4 = c .before .before .before .before in
-    let c8 = c4 .before .before .before .before in (
-      rw (
-        ← c4 .before .before .line .ensures,
-        ← c8 .people .ensures .0,
-        ← c4 .before .before .before .everyone .ensures,
-        eq-eqb _ _ (c4 .before .if1 .left),
-        ← c4 .line2 .ensures,
-        ← c .before .before .before .transit .ensures,
-        eq-eqb _ _ (c .before .before .if2 .left),
-        ← c .before .line3 .ensures,
-        eq-eqb _ _ (c .if3 .left),
-      ),
-      omega arith,
-    )
+unfolding index
+returns-4 c = (rw (by-heard (c .before), eq-eqb _ _ (c .if3 .left)), omega arith)
 
 pub stage-spec : {M : Type 1} → statement M
 stage-spec =

@@ -1,8 +1,13 @@
 -- `judge_step` makes the tests of its definition, in the same order.
 -- Assumes nothing.
 use Prim.Native.Nat.{_+_}
+use mathlib.Core.Path.{_≡_}
+use lib.Dec.{eqb}
 use native.Mathlib.Omega.{arith}
 use borrow.Author.Tests.{lt-ltb, le-ltb, le-leb, lt-leb, eq-eqb, ne-eqb}
+use Rattle.rounds.specs.declared.Event.the-variants.{Step}
+use Rattle.rounds.specs.declared.Verdict.the-variants.{Accepted, LastRound}
+use Rattle.rounds.specs.Limits.{lastRound, mostEvents}
 use Rattle.rounds.specs.Stages.{sentToAll}
 use Rattle.rounds.specs.Verdicts.{refuse, outside, crowded, stepVerdict, verdict}
 use Rattle.words.specs.Spelled.{siteOf, controlOf}
@@ -27,7 +32,7 @@ returns-2 c =
       ← c .before .before .before .people .ensures .0,
       lt-leb _ _ (c .before .before .if1 .left),
       ← c .before .head .ensures,
-      lt-ltb 1000000 (c .before .head .result + 1) (omega arith),
+      lt-ltb mostEvents (c .before .head .result + 1) (omega arith),
     )
 
 line-requires : tie.Need-line-requires
@@ -44,7 +49,7 @@ returns-3 c =
       ← c4 .before .before .people .ensures .0,
       lt-leb _ _ (c4 .before .if1 .left),
       ← c4 .head .ensures,
-      le-ltb 1000000 (c4 .head .result + 1) (omega arith),
+      le-ltb mostEvents (c4 .head .result + 1) (omega arith),
       ← c .before .before .line .ensures,
       ← c .before .everyone .ensures,
       ne-eqb _ _ (c .if3 .taken),
@@ -53,39 +58,31 @@ returns-3 c =
 line-requires-2 : tie.Need-line-requires-2
 line-requires-2 c κs = search needs
 
-returns-4 : tie.Need-returns-4
+-- after the first tests, the round decides
+by-round : (c : tie.After-line2)
+    → (let a = c .before .before .before .before .before .before .before .before .args in verdict (controlOf (a .run .now)) (Step (a .p)))
+    ≡ refuse (eqb (c .line2 .result) lastRound) LastRound Accepted
 unfolding verdict stepVerdict sentToAll outside crowded refuse controlOf siteOf
-returns-4 c =
-    let c4 = c .before .before .before .before in
-    let c8 = c4 .before .before .before .before in
+by-round c =
+    let c5 = c .before .before .before .before .before in
     rw (
-      ← c8 .people .ensures .0,
-      lt-leb _ _ (c4 .before .before .before .if1 .left),
-      ← c4 .before .before .head .ensures,
-      le-ltb 1000000 (c4 .before .before .head .result + 1) (omega arith),
-      ← c4 .line .ensures,
-      ← c .before .before .before .everyone .ensures,
-      eq-eqb _ _ (c .before .before .if3 .left),
-      ← c .before .line2 .ensures,
-      eq-eqb _ _ (c .if4 .taken),
+      ← c5 .before .before .people .ensures .0,
+      lt-leb _ _ (c5 .before .if1 .left),
+      ← c5 .head .ensures,
+      le-ltb mostEvents (c5 .head .result + 1) (omega arith),
+      ← c .before .before .before .line .ensures,
+      ← c .before .before .everyone .ensures,
+      eq-eqb _ _ (c .before .if3 .left),
+      ← c .line2 .ensures,
     )
 
+returns-4 : tie.Need-returns-4
+unfolding refuse
+returns-4 c = rw (by-round (c .before), eq-eqb _ _ (c .if4 .taken))
+
 returns-5 : tie.Need-returns-5
-unfolding verdict stepVerdict sentToAll outside crowded refuse controlOf siteOf
-returns-5 c =
-    let c4 = c .before .before .before .before in
-    let c8 = c4 .before .before .before .before in
-    rw (
-      ← c8 .people .ensures .0,
-      lt-leb _ _ (c4 .before .before .before .if1 .left),
-      ← c4 .before .before .head .ensures,
-      le-ltb 1000000 (c4 .before .before .head .result + 1) (omega arith),
-      ← c4 .line .ensures,
-      ← c .before .before .before .everyone .ensures,
-      eq-eqb _ _ (c .before .before .if3 .left),
-      ← c .before .line2 .ensures,
-      ne-eqb _ _ (c .if4 .left),
-    )
+unfolding refuse
+returns-5 c = rw (by-round (c .before), ne-eqb _ _ (c .if4 .left))
 
 pub judge-step-spec : {M : Type 1} → statement M
 judge-step-spec =
