@@ -3,6 +3,7 @@
 use Prim.Native.Nat.{_+_}
 use native.Mathlib.Omega.{arith}
 use borrow.Author.Tests.{lt-ltb, le-ltb, le-leb, lt-leb}
+use Rattle.rounds.specs.Limits.{mostEvents}
 use Rattle.rounds.specs.Verdicts.{refuse, outside, crowded, verdict}
 use Rattle.words.specs.Spelled.{controlOf}
 use borrow.Author.Needs.{needs}
@@ -30,7 +31,7 @@ returns-2 c =
       ← c .before .before .before .people .ensures .0,
       lt-leb _ _ (c .before .before .if1 .left),
       ← c .before .head .ensures,
-      lt-ltb 1000000 (c .before .head .result + c .before .before .before .people .result) (omega arith),
+      lt-ltb mostEvents (c .before .head .result + c .before .before .before .people .result) (omega arith),
     )
 
 judge-targets-requires : tie.Need-judge-targets-requires
@@ -46,7 +47,7 @@ returns-3 c =
       ← c4 .people .ensures .0,
       lt-leb _ _ (c .before .before .before .if1 .left),
       ← c .before .before .head .ensures,
-      le-ltb 1000000 (c .before .before .head .result + c4 .people .result) (omega arith),
+      le-ltb mostEvents (c .before .before .head .result + c4 .people .result) (omega arith),
     )
 
 pub judge-broadcast-spec : {M : Type 1} → statement M

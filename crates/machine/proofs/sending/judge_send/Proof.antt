@@ -3,6 +3,7 @@
 use Prim.Native.Nat.{_+_}
 use native.Mathlib.Omega.{arith}
 use borrow.Author.Tests.{lt-ltb, le-ltb, le-leb, lt-leb}
+use Rattle.rounds.specs.Limits.{mostEvents}
 use Rattle.rounds.specs.Verdicts.{refuse, outside, crowded, verdict}
 use Rattle.words.specs.Spelled.{controlOf}
 use borrow.Author.Needs.{needs}
@@ -31,7 +32,7 @@ returns-3 c =
       lt-leb _ _ (c .before .before .before .if1 .left),
       lt-leb _ _ (c .before .before .if2 .left),
       ← c .before .head .ensures,
-      lt-ltb 1000000 (c .before .head .result + 1) (omega arith),
+      lt-ltb mostEvents (c .before .head .result + 1) (omega arith),
     )
 
 judge-target-requires : tie.Need-judge-target-requires
@@ -46,7 +47,7 @@ returns-4 c =
       lt-leb _ _ (c .before .before .before .before .if1 .left),
       lt-leb _ _ (c .before .before .before .if2 .left),
       ← c .before .before .head .ensures,
-      le-ltb 1000000 (c .before .before .head .result + 1) (omega arith),
+      le-ltb mostEvents (c .before .before .head .result + 1) (omega arith),
     )
 
 pub judge-send-spec : {M : Type 1} → statement M
