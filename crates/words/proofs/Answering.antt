@@ -21,7 +21,7 @@ use Rattle.words.specs.Layout.{Mem}
 use Rattle.words.specs.Spelled.{controlOf}
 use Rattle.words.specs.Calls.{answer}
 use Rattle.words.specs.Shows.{Shown, verdictOf, actor, reported}
-use Rattle.words.proofs.Settling.{people-shown, transit-shown}
+use Rattle.words.proofs.Spelling.{people-shown, transit-shown}
 
 -- a test that refuses, and what is left where it does not
 refuse-same : (a b : Bool) (v x y : Verdict) → a ≡ b → (b ≡ false → x ≡ y) → refuse a v x ≡ refuse b v y

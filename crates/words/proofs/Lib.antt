@@ -1,6 +1,7 @@
 -- The laws of the memory: places and writes, and that each call means what the abstract round machine does.
 pub mod Places
 pub mod Frames
+pub mod Spelling
 pub mod Settling
 pub mod Marking
 pub mod Posting

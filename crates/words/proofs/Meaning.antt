@@ -31,7 +31,7 @@ use Rattle.words.specs.Layout.{Mem}
 use Rattle.words.specs.Spelled.{people, controlOf}
 use Rattle.words.specs.Calls.{blank, opened, begins, sentBelow, done, applied, answer, standingOf}
 use Rattle.words.specs.Shows.{Shown, Shows, Meant, Given, standing}
-use Rattle.words.proofs.Settling.{people-shown}
+use Rattle.words.proofs.Spelling.{people-shown}
 use Rattle.words.proofs.Sending.{sent-shows}
 use Rattle.words.proofs.Receiving.{received-shows}
 use Rattle.words.proofs.Stepping.{stepped-shows}
