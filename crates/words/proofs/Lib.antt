@@ -1,4 +1,11 @@
--- The laws of the memory: places and writes, and that each call means what the abstract round machine does.
+-- Start at Meaning, the front page. Beside it stand: what a list of events comes to, what is read, that a memory shows one configuration, and that
+-- a call has one result. Below them, in this order: the examples; places and writes; what words spell; what they show after each change; how runs fit.
+pub mod Meaning
+pub mod Replaying
+pub mod Reading
+pub mod Unique
+pub mod Determined
+pub mod AllExamples
 pub mod Places
 pub mod Frames
 pub mod Spelling
@@ -8,12 +15,6 @@ pub mod Posting
 pub mod Sending
 pub mod Receiving
 pub mod Stepping
+pub mod Opening
 pub mod Fitting
 pub mod Answering
-pub mod Opening
-pub mod Meaning
-pub mod Replaying
-pub mod Reading
-pub mod Unique
-pub mod AllExamples
-pub mod Determined
