@@ -1,5 +1,5 @@
 -- The laws that the proofs of the functions share.
 pub mod Rooms
-pub mod Leads
+pub mod Lead
 pub mod Told
 pub mod Heard

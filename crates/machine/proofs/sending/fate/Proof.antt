@@ -8,7 +8,7 @@ use Rattle.rounds.specs.Limits.{window}
 use Rattle.rounds.specs.Verdicts.{ahead}
 use Rattle.rounds.specs.Events.{timely}
 use Rattle.words.specs.Calls.{fate}
-use Rattle.machine.proofs.Leads.{lead-fits, lead-late, lead-reached, lead-below, lead-from, lead-word}
+use Rattle.machine.proofs.Lead.{lead-fits, lead-late, lead-reached, lead-below, lead-from, lead-word}
 use borrow.Author.Needs.{needs}
 use Rattle.machine.proofs.sending.fate.Statement.{statement}
 use Rattle.machine.proofs.sending.fate.Tie as tie
