@@ -29,7 +29,8 @@ use Rattle.rounds.proofs.Reach.{reach-grows, own-reach}
 use Rattle.rounds.proofs.Live.{not-live, open-silent, live-from}
 use Rattle.rounds.proofs.Mail.{spoken-fresh, mail-true}
 use Rattle.rounds.proofs.Table.{Once, once-kept, open-once, at-sending, at-collecting, at-pending, at-idle}
-use Rattle.rounds.proofs.Running.{after-append, apply-accepted, moment}
+use Rattle.rounds.proofs.Running.{after-append, apply-accepted}
+use Rattle.rounds.proofs.Moments.{moment}
 use Rattle.rounds.proofs.Effects.{step-votes, step-reaches}
 
 module _ (n : ℕ) (v : ℕ → ℕ) (es : List Event) where

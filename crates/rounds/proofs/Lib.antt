@@ -17,6 +17,7 @@ pub mod Mail
 pub mod Table
 pub mod Effects
 pub mod Running
+pub mod Moments
 pub mod Recorded
 pub mod InRuns
 pub mod Independence
