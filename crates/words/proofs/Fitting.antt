@@ -1,7 +1,8 @@
--- A configuration that a run reaches has room in its words: what the limits of every run come to here.
+-- What a configuration must have for its words to have room, and that one which a run reaches has it: what the limits of every run come to here.
 -- Assumes nothing.
-use Prim.Native.Nat.{ℕ, _+_, _≤_}
+use Prim.Native.Nat.{ℕ, _+_, _^_, _≤_, _<_}
 use native.Mathlib.Omega.{arith}
+use native.Mathlib.Nat.{mod-eq-of-lt}
 use mathlib.Core.Path.{_≡_, refl}
 use mathlib.Core.List.{List}
 use Rattle.sets.specs.Sets.{empty}
@@ -17,9 +18,20 @@ use Rattle.rounds.specs.Claims.Live.{waiting, taken}
 use Rattle.rounds.proofs.Kept.{Kept, kept}
 use Rattle.rounds.proofs.Limits.{InRounds, rounds-kept, events-kept, Window, window-kept, open-window, in-window, Within, within-kept, open-within}
 use Rattle.rounds.proofs.Counts.{total-kept}
+use Rattle.words.specs.Spelled.{word}
 use Rattle.words.proofs.Frames.{Near}
-use Rattle.words.proofs.Settling.{Fit}
 
+pub record Fit (c : Control) : Type 0 where
+  pub few : c .size ≤ mostProcesses
+  pub near : Near c
+  pub room : c .events ≤ mostEvents
+  pub small : (x : ℕ) (s : Stage) → c .count x s ≤ c .events
+
+pub word-fits : (x : ℕ) → x < 2 ^ 32 → word x ≡ x
+unfolding word
+word-fits x h = mod-eq-of-lt h
+
+-- ---- a run has it
 -- a count is no more than all four
 part : (f : Stage → ℕ) (e : ℕ) → total f ≡ e → (s : Stage) → f s ≤ e
 unfolding total

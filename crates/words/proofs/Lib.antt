@@ -1,5 +1,5 @@
 -- Start at Meaning, the front page. Beside it stand: what a list of events comes to, what is read, that a memory shows one configuration, and that
--- a call has one result. Below them, in this order: the examples; places and writes; what words spell; what they show after each change; how runs fit.
+-- a call has one result. Below them, in this order: the examples; places and writes; what words spell; how runs fit them; what they show after each change.
 pub mod Meaning
 pub mod Replaying
 pub mod Reading
@@ -9,6 +9,7 @@ pub mod AllExamples
 pub mod Places
 pub mod Frames
 pub mod Spelling
+pub mod Fitting
 pub mod Settling
 pub mod Marking
 pub mod Posting
@@ -16,5 +17,4 @@ pub mod Sending
 pub mod Receiving
 pub mod Stepping
 pub mod Opening
-pub mod Fitting
 pub mod Answering

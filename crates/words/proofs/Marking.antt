@@ -18,7 +18,8 @@ use Rattle.words.specs.Calls.{marked}
 use Rattle.words.specs.Shows.{ShowsProcess, Shown}
 use Rattle.words.proofs.Places.{Inside, kept, wrote}
 use Rattle.words.proofs.Frames.{index-small, holding-kept, message-kept, carried-kept, changed}
-use Rattle.words.proofs.Settling.{Fit, unstaged}
+use Rattle.words.proofs.Fitting.{Fit}
+use Rattle.words.proofs.Settling.{unstaged}
 
 unfoldable pub marks : Control → ℕ → ℕ → Control
 marks c p q =

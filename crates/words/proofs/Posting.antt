@@ -21,7 +21,8 @@ use Rattle.words.specs.Spelled.{choice, messageOf, carriedOf}
 use Rattle.words.specs.Shows.{ShowsProcess, Shown}
 use Rattle.words.proofs.Places.{Inside, kept, wrote}
 use Rattle.words.proofs.Frames.{index-small, holding-kept, site-kept, message-kept, carried-kept, changed}
-use Rattle.words.proofs.Settling.{Fit, unstaged}
+use Rattle.words.proofs.Fitting.{Fit}
+use Rattle.words.proofs.Settling.{unstaged}
 
 unfoldable pub posts : Control → ℕ → ℕ → ℕ → ℕ → Control
 posts c p q r reach =

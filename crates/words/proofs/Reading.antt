@@ -16,8 +16,7 @@ use Rattle.words.specs.Spelled.{word, people, countOf}
 use Rattle.words.specs.Calls.{standingOf}
 use Rattle.words.specs.Shows.{Shows, standing}
 use Rattle.words.proofs.Spelling.{round-word, reach-word, people-shown, stage-shown}
-use Rattle.words.proofs.Settling.{Fit, word-fits}
-use Rattle.words.proofs.Fitting.{fit, total-of}
+use Rattle.words.proofs.Fitting.{Fit, word-fits, fit, total-of}
 
 -- there are never more than the most, whatever the memory holds
 pub people-most : (m : Mem) → people m ≤ mostProcesses

@@ -21,7 +21,8 @@ use Rattle.words.specs.Shows.{ShowsProcess, Shown}
 use Rattle.words.proofs.Places.{Inside, kept, wrote}
 use Rattle.words.proofs.Frames.{index-small, holding-kept, message-kept, carried-kept, changed}
 use Rattle.words.proofs.Spelling.{round-word, transit-shown}
-use Rattle.words.proofs.Settling.{Fit, tick-live, tick-fit, unstaged, begun-shows}
+use Rattle.words.proofs.Fitting.{Fit}
+use Rattle.words.proofs.Settling.{tick-live, tick-fit, unstaged, begun-shows}
 
 unfoldable takings : ℕ → ℕ → ℕ → ℕ → ℕ → List Write
 takings p q r senders heard = Transit p r := without senders q ∷ Line p HEARD := with heard q ∷ []

@@ -20,7 +20,8 @@ use Rattle.words.specs.Shows.{Shown}
 use Rattle.words.proofs.Marking.{marks, marks-round, marks-reach, marks-fit, mark-shows, mark-since}
 use Rattle.words.proofs.Posting.{posts, mails, postings, post-shows}
 use Rattle.words.proofs.Spelling.{round-word, reach-word}
-use Rattle.words.proofs.Settling.{Fit, tick-fit, settled-shows, settled-since, since-stays, begun-shows}
+use Rattle.words.proofs.Fitting.{Fit}
+use Rattle.words.proofs.Settling.{tick-fit, settled-shows, settled-since, since-stays, begun-shows}
 
 module _ (c : Control) (d : Content) (p q : ℕ) where
   -- the two changes are the round machine's send

@@ -3,14 +3,13 @@
 use Prim.Native.Nat.{ℕ, suc, _+_, _-_, _*_, _^_, _≤_, _<_}
 use native.Mathlib.Omega.{arith}
 use native.Mathlib.Decide.{ℕ-discrete}
-use native.Mathlib.Nat.{mod-eq-of-lt}
 use mathlib.Core.Path.{_≡_, refl, sym, ap, _∙_, subst}
 use mathlib.Core.Bool.{Bool, true, false, cond}
 use mathlib.Core.List.{List, [], _∷_}
 use lib.Dec.{eqb, lit<, lit≤}
 use borrow.Author.Tests.{eq-eqb, ne-eqb}
 use Rattle.rounds.specs.declared.Stage.{Stage}
-use Rattle.rounds.specs.Limits.{mostProcesses, mostEvents}
+use Rattle.rounds.specs.Limits.{mostEvents}
 use Rattle.rounds.specs.Run.{Control, Content}
 use Rattle.rounds.specs.Stages.{sentToAll, heardFromAll, waited, stage, index, one, tick}
 use Rattle.rounds.specs.Claims.{Live}
@@ -20,19 +19,9 @@ use Rattle.words.specs.Spelled.{word}
 use Rattle.words.specs.Calls.{counted, settled, begun}
 use Rattle.words.specs.Shows.{ShowsProcess, Shown}
 use Rattle.words.proofs.Places.{Inside, kept, wrote, writes-length, head-only}
+use Rattle.words.proofs.Frames.{index-small, holding-kept, site-kept, message-kept, carried-kept, words-same, changed}
 use Rattle.words.proofs.Spelling.{stage-shown}
-use Rattle.words.proofs.Frames.{index-small, Near, holding-kept, site-kept, message-kept, carried-kept, words-same, changed}
-
--- ---- what a configuration must have for its words to have room
-pub record Fit (c : Control) : Type 0 where
-  pub few : c .size ≤ mostProcesses
-  pub near : Near c
-  pub room : c .events ≤ mostEvents
-  pub small : (x : ℕ) (s : Stage) → c .count x s ≤ c .events
-
-pub word-fits : (x : ℕ) → x < 2 ^ 32 → word x ≡ x
-unfolding word
-word-fits x h = mod-eq-of-lt h
+use Rattle.words.proofs.Fitting.{Fit, word-fits}
 
 -- ---- one and the same stage
 one-same : (a s : Stage) → index s ≡ index a → one a s ≡ 1

@@ -30,7 +30,8 @@ use Rattle.words.specs.Shows.{ShowsProcess, Shown}
 use Rattle.words.proofs.Places.{Inside, kept, wrote, round-place}
 use Rattle.words.proofs.Frames.{index-small, holding-kept, site-kept, message-kept, carried-kept, changed}
 use Rattle.words.proofs.Spelling.{round-word, reach-word, people-shown}
-use Rattle.words.proofs.Settling.{Fit, word-fits, tick-live, tick-fit, unstaged, begun-shows}
+use Rattle.words.proofs.Fitting.{Fit, word-fits}
+use Rattle.words.proofs.Settling.{tick-live, tick-fit, unstaged, begun-shows}
 
 -- ---- what the process holds
 choice-back : (v : Choice) → choice (flagOf v) (wordOf v) ≡ v
