@@ -91,7 +91,6 @@ or-cases true b t = inl refl
 or-cases false b t = inr t
 
 pub with-cases : (s k j : ℕ) → has (with s k) j ≡ true → (has s j ≡ true) ⊎ (j ≡ k)
-unfolding ⊎-map
 with-cases s k j h = ⊎-map (λ i. i) (eqb-true j k) (or-cases (has s j) (eqb j k) (sym (has-with s k j) ∙ h))
 
 -- ---- a process that leaves

@@ -45,7 +45,7 @@ members-in (suc n) s k m =
     (among-cases (members n s) m)
 
 pub in-members : (n s k : ℕ) → k < n → has s k ≡ true → Among k (members n s)
-unfolding members only
+unfolding members
 in-members zero s k l h = absurd (omega arith)
 in-members (suc n) s k l h =
     ⊎-elim

@@ -131,7 +131,7 @@ module _ (m : Mem) (n x : ℕ) (v : ℕ → ℕ) (f : Fresh m x (v x)) where
       rw (f .value, f .others VOTED (omega arith), f .others DECIDED (omega arith))
 
   fresh-shows : ShowsProcess m (openControl n) (openContent v) x
-  unfolding openControl openContent
+  unfolding openControl
   fresh-shows =
       record {
         site = fresh-site;

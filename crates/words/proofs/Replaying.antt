@@ -44,7 +44,7 @@ replayed-shows (e ∷ es) m c k =
     go false h = k
 
 pub replayed-judged : (es : List Event) (m : Mem) (c : Config) → Shows m c → replayedVerdict m es ≡ replayVerdict c es
-unfolding replayedVerdict replayVerdict ifAccepted
+unfolding replayedVerdict replayVerdict
 replayed-judged [] m c k = refl
 replayed-judged (e ∷ es) m c k =
     rw (verdict-shown m (c .control) (c .content) (k .few) (k .shown) e, replayed-judged es (applied m e) (apply c e) (shows-next m c e k))
