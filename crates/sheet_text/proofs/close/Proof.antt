@@ -14,12 +14,6 @@ use borrow.Author.Needs.{needs}
 use Rattle.sheet_text.proofs.close.Statement.{statement}
 use Rattle.sheet_text.proofs.close.Tie as tie
 
--- `close` writes line after line; before each, the piece is what is written so far and a piece from there on.
--- Assumes nothing.
-
--- `close` writes line after line; before each, the piece is what is written so far and a piece from there on.
--- Assumes nothing.
-
 -- the loop's test is whether a line is left
 next : (m : Mem) (n k : ℕ) → n ≡ people m → k < n + n + 1 → k < Pieces.closingCount m
 unfolding Pieces.closingCount

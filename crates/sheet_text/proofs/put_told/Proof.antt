@@ -8,9 +8,6 @@ use borrow.Author.Needs.{needs}
 use Rattle.sheet_text.proofs.put_told.Statement.{statement}
 use Rattle.sheet_text.proofs.put_told.Tie as tie
 
--- `put_told` writes the line of a step, for which there is room.
--- Assumes nothing.
-
 enum-told : tie.Need-enum-told
 enum-told c = search needs
 
