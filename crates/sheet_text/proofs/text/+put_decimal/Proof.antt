@@ -7,183 +7,78 @@ use Rattle.sheet_text.proofs.Writing.{one-fits, one-wrote, two-fits, tw
 use borrow.Author.Needs.{needs}
 use borrow.Fn.Kinds.{In}
 use borrow.Fn.PlainCycle.{Measures, is, falls, and}
-use Rattle.sheet_text.proofs.text.put_decimal.Reads as put-decimal
-use Rattle.sheet_text.proofs.text.put_decimal.Kinds as put-decimal-kinds
-use Rattle.sheet_text.proofs.text.+put_decimal.Lts-put_decimal as put-decimal-lts
-use Rattle.sheet_text.proofs.text.glyph.Reads as glyph-reads
-use Rattle.sheet_text.proofs.text.put_byte.Reads as put-byte-reads
-use Rattle.sheet_text.proofs.text.put_two.Reads as put-two-reads
+use Rattle.sheet_text.proofs.text.put_decimal.Reads as own
+use Rattle.sheet_text.proofs.text.put_decimal.Kinds.{ps}
+use Rattle.sheet_text.proofs.text.+put_decimal.Lts-put_decimal as tie
+use Rattle.sheet_text.proofs.text.glyph.Reads as glyph
+use Rattle.sheet_text.proofs.text.put_byte.Reads as put-byte
+use Rattle.sheet_text.proofs.text.put_two.Reads as put-two
 use Rattle.sheet_text.proofs.text.+put_decimal.{statement}
 use Rattle.sheet_text.proofs.text.+put_decimal.Tie.{close}
 
-abbrev μ-put-decimal : Measures 1 put-decimal-kinds.ps ℕ
-μ-put-decimal κs a = a .1 .1 .0
+abbrev μ : Measures 1 ps ℕ
+μ κs a = a .1 .1 .0
 
-abbrev put-decimal-at : ℕ → In 1 put-decimal-kinds.ps
-put-decimal-at t =
-    and 1 put-decimal-kinds.ps (is 1 put-decimal-kinds.ps μ-put-decimal t) put-decimal.Pre
+-- the number is t; and its own call's is below t
+module _ (t : ℕ) where
+  abbrev at : In 1 ps
+  at = and 1 ps (is 1 ps μ t) own.Pre
 
-abbrev put-decimal-below : ℕ → In 1 put-decimal-kinds.ps
-put-decimal-below t =
-    and 1 put-decimal-kinds.ps (falls 1 put-decimal-kinds.ps _<_ μ-put-decimal t) put-decimal.Pre
+  abbrev below : In 1 ps
+  below = and 1 ps (falls 1 ps _<_ μ t) own.Pre
 
-put-decimal-glyph-requires : (t : ℕ) → put-decimal-lts.Need-glyph-requires (
-  glyph-reads.Asked,
-  glyph-reads.Learnt,
-  put-byte-reads.Asked,
-  put-byte-reads.Learnt,
-  put-two-reads.Asked,
-  put-two-reads.Learnt,
-  put-decimal-below t,
-  put-decimal.Post,
-) (put-decimal-at t) put-decimal.Post
-put-decimal-glyph-requires t c κs = omega arith
+  -- what each call asks, and what is learnt of it
+  abbrev calls : tie.Claims
+  calls = (glyph.Asked, glyph.Learnt, put-byte.Asked, put-byte.Learnt, put-two.Asked, put-two.Learnt, below, own.Post)
 
-put-decimal-put-byte-requires : (t : ℕ) → put-decimal-lts.Need-put-byte-requires (
-  glyph-reads.Asked,
-  glyph-reads.Learnt,
-  put-byte-reads.Asked,
-  put-byte-reads.Learnt,
-  put-two-reads.Asked,
-  put-two-reads.Learnt,
-  put-decimal-below t,
-  put-decimal.Post,
-) (put-decimal-at t) put-decimal.Post
-put-decimal-put-byte-requires t c κs = one-fits _ (omega arith) (c .before .before .before .before .pre .1) _
+  glyph-requires : tie.Need-glyph-requires calls at own.Post
+  glyph-requires c κs = omega arith
 
-put-decimal-same-length : (t : ℕ) → put-decimal-lts.Need-same-length (
-  glyph-reads.Asked,
-  glyph-reads.Learnt,
-  put-byte-reads.Asked,
-  put-byte-reads.Learnt,
-  put-two-reads.Asked,
-  put-two-reads.Learnt,
-  put-decimal-below t,
-  put-decimal.Post,
-) (put-decimal-at t) put-decimal.Post
-put-decimal-same-length t c = search needs
+  put-byte-requires : tie.Need-put-byte-requires calls at own.Post
+  put-byte-requires c κs = one-fits _ (omega arith) (c .before .before .before .before .pre .1) _
 
-put-decimal-returns : (t : ℕ) → put-decimal-lts.Need-returns (
-  glyph-reads.Asked,
-  glyph-reads.Learnt,
-  put-byte-reads.Asked,
-  put-byte-reads.Learnt,
-  put-two-reads.Asked,
-  put-two-reads.Learnt,
-  put-decimal-below t,
-  put-decimal.Post,
-) (put-decimal-at t) put-decimal.Post
-put-decimal-returns t c = one-wrote _ (omega arith) (c .before .before .before .glyph .ensures) (c .before .before .put-byte .ensures)
+  same-length : tie.Need-same-length calls at own.Post
+  same-length c = search needs
 
-put-decimal-put-two-requires : (t : ℕ) → put-decimal-lts.Need-put-two-requires (
-  glyph-reads.Asked,
-  glyph-reads.Learnt,
-  put-byte-reads.Asked,
-  put-byte-reads.Learnt,
-  put-two-reads.Asked,
-  put-two-reads.Learnt,
-  put-decimal-below t,
-  put-decimal.Post,
-) (put-decimal-at t) put-decimal.Post
-put-decimal-put-two-requires t c κs = (omega arith, two-fits _ (omega arith) (omega arith) (c .before .before .before .before .pre .1))
+  returns : tie.Need-returns calls at own.Post
+  returns c = one-wrote _ (omega arith) (c .before .before .before .glyph .ensures) (c .before .before .put-byte .ensures)
 
-put-decimal-same-length-2 : (t : ℕ) → put-decimal-lts.Need-same-length-2 (
-  glyph-reads.Asked,
-  glyph-reads.Learnt,
-  put-byte-reads.Asked,
-  put-byte-reads.Learnt,
-  put-two-reads.Asked,
-  put-two-reads.Learnt,
-  put-decimal-below t,
-  put-decimal.Post,
-) (put-decimal-at t) put-decimal.Post
-put-decimal-same-length-2 t c = search needs
+  put-two-requires : tie.Need-put-two-requires calls at own.Post
+  put-two-requires c κs = (omega arith, two-fits _ (omega arith) (omega arith) (c .before .before .before .before .pre .1))
 
-put-decimal-returns-2 : (t : ℕ) → put-decimal-lts.Need-returns-2 (
-  glyph-reads.Asked,
-  glyph-reads.Learnt,
-  put-byte-reads.Asked,
-  put-byte-reads.Learnt,
-  put-two-reads.Asked,
-  put-two-reads.Learnt,
-  put-decimal-below t,
-  put-decimal.Post,
-) (put-decimal-at t) put-decimal.Post
-put-decimal-returns-2 t c = two-wrote _ (omega arith) (omega arith) (c .before .before .put-two .ensures)
+  same-length-2 : tie.Need-same-length-2 calls at own.Post
+  same-length-2 c = search needs
 
-put-decimal-put-decimal-requires : (t : ℕ) → put-decimal-lts.Need-put-decimal-requires (
-  glyph-reads.Asked,
-  glyph-reads.Learnt,
-  put-byte-reads.Asked,
-  put-byte-reads.Learnt,
-  put-two-reads.Asked,
-  put-two-reads.Learnt,
-  put-decimal-below t,
-  put-decimal.Post,
-) (put-decimal-at t) put-decimal.Post
-put-decimal-put-decimal-requires t c κs = (omega arith, head-fits _ (omega arith) (c .before .before .before .before .pre .1))
+  returns-2 : tie.Need-returns-2 calls at own.Post
+  returns-2 c = two-wrote _ (omega arith) (omega arith) (c .before .before .put-two .ensures)
 
-put-decimal-put-two-requires-2 : (t : ℕ) → put-decimal-lts.Need-put-two-requires-2 (
-  glyph-reads.Asked,
-  glyph-reads.Learnt,
-  put-byte-reads.Asked,
-  put-byte-reads.Learnt,
-  put-two-reads.Asked,
-  put-two-reads.Learnt,
-  put-decimal-below t,
-  put-decimal.Post,
-) (put-decimal-at t) put-decimal.Post
-put-decimal-put-two-requires-2 t c κs =
-    let c3 = c .before .before .before in
-    (omega arith, last-fits _ (omega arith) (c3 .before .before .before .before .before .pre .1) (c3 .put-decimal .ensures))
+  put-decimal-requires : tie.Need-put-decimal-requires calls at own.Post
+  put-decimal-requires c κs = (omega arith, head-fits _ (omega arith) (c .before .before .before .before .pre .1))
 
-put-decimal-same-length-3 : (t : ℕ) → put-decimal-lts.Need-same-length-3 (
-  glyph-reads.Asked,
-  glyph-reads.Learnt,
-  put-byte-reads.Asked,
-  put-byte-reads.Learnt,
-  put-two-reads.Asked,
-  put-two-reads.Learnt,
-  put-decimal-below t,
-  put-decimal.Post,
-) (put-decimal-at t) put-decimal.Post
-put-decimal-same-length-3 t c =
-    c .before .before .put-two2 .kept .0 ∙ c .before .before .before .before .before .before .put-decimal .kept .0
+  put-two-requires-2 : tie.Need-put-two-requires-2 calls at own.Post
+  put-two-requires-2 c κs =
+      let c3 = c .before .before .before in
+      (omega arith, last-fits _ (omega arith) (c3 .before .before .before .before .before .pre .1) (c3 .put-decimal .ensures))
 
-put-decimal-returns-3 : (t : ℕ) → put-decimal-lts.Need-returns-3 (
-  glyph-reads.Asked,
-  glyph-reads.Learnt,
-  put-byte-reads.Asked,
-  put-byte-reads.Learnt,
-  put-two-reads.Asked,
-  put-two-reads.Learnt,
-  put-decimal-below t,
-  put-decimal.Post,
-) (put-decimal-at t) put-decimal.Post
-put-decimal-returns-3 t c =
-    last-wrote _ (omega arith) (c .before .before .before .before .before .before .put-decimal .ensures) (c .before .before .put-two2 .ensures)
+  same-length-3 : tie.Need-same-length-3 calls at own.Post
+  same-length-3 c = c .before .before .put-two2 .kept .0 ∙ c .before .before .before .before .before .before .put-decimal .kept .0
+
+  returns-3 : tie.Need-returns-3 calls at own.Post
+  returns-3 c =
+      last-wrote _ (omega arith) (c .before .before .before .before .before .before .put-decimal .ensures) (c .before .before .put-two2 .ensures)
 
 pub +put-decimal-spec : {M : Type 1} → statement M
-+put-decimal-spec = close μ-put-decimal λ t. put-decimal-lts.spec (
-  glyph-reads.Asked,
-  glyph-reads.Learnt,
-  put-byte-reads.Asked,
-  put-byte-reads.Learnt,
-  put-two-reads.Asked,
-  put-two-reads.Learnt,
-  put-decimal-below t,
-  put-decimal.Post,
-)
-    (put-decimal-at t)
-    put-decimal.Post
-    (put-decimal-glyph-requires t)
-    (put-decimal-put-byte-requires t)
-    (put-decimal-same-length t)
-    (put-decimal-returns t)
-    (put-decimal-put-two-requires t)
-    (put-decimal-same-length-2 t)
-    (put-decimal-returns-2 t)
-    (put-decimal-put-decimal-requires t)
-    (put-decimal-put-two-requires-2 t)
-    (put-decimal-same-length-3 t)
-    (put-decimal-returns-3 t)
++put-decimal-spec = close μ λ t. tie.spec (calls t)
+    (at t)
+    own.Post
+    (glyph-requires t)
+    (put-byte-requires t)
+    (same-length t)
+    (returns t)
+    (put-two-requires t)
+    (same-length-2 t)
+    (returns-2 t)
+    (put-decimal-requires t)
+    (put-two-requires-2 t)
+    (same-length-3 t)
+    (returns-3 t)
