@@ -58,46 +58,56 @@ pub goes-within : {k : ℕ} {next : Place} {t : Told} (pl : Place) (c : Control)
 unfolding turn Within
 goes-within pl c w e = subst (Within w) e (record-within c w (parse pl w) (extent-within pl w))
 
--- ---- sends and receives taken all at once from a place of the trace on: m′ is the memory that they leave
-pub hastened : {m′ : Mem} {more : ℕ} (pl : Place) (m : Mem) (w : List ℕ) (at : ℕ) → (at ≤ length w) × (ahead pl m (drop at w) ≡ ahead First blank w)
+-- ---- how far the loop has come in the trace w: what is ahead from the place at on is what is ahead of all of it
+pub record Reached (w : List ℕ) (pl : Place) (m : Mem) (at : ℕ) : Type 0 where
+  pub within : at ≤ length w
+  pub ahead-of : ahead pl m (drop at w) ≡ ahead First blank w
+
+-- ---- sends and receives taken all at once from there on: m′ is the memory that they leave
+pub hastened : {w : List ℕ} {pl : Place} {m m′ : Mem} {at more : ℕ} → Reached w pl m at
     → (more ≡ haste pl m (take (length w - at) (drop at w)) .used) × (m′ ≡ haste pl m (take (length w - at) (drop at w)) .words)
-    → (at + more ≤ length w) × (ahead pl m′ (drop (at + more) w) ≡ ahead First blank w)
-hastened pl m w at l e =
+    → Reached w pl m′ (at + more)
+hastened {w} {pl} {m} {m′} {at} h e =
     let used = rw rest at (e .0) in
     let words = rw rest at (e .1) in
-    let far = haste-within pl m (drop at w) in (
-      omega (arith, l .0, far, used, length-drop at w),
-      rw (used, words, ← drop-drop (haste pl m (drop at w) .used) at w) (sym (haste-ahead pl m (drop at w)) ∙ l .1),
-    )
+    let far = haste-within pl m (drop at w) in
+    record {
+      within = omega (arith, h .within, far, used, length-drop at w);
+      ahead-of = rw (used, words, ← drop-drop (haste pl m (drop at w) .used) at w) (sym (haste-ahead pl m (drop at w)) ∙ h .ahead-of);
+    }
 
--- ---- the turn at a place of the trace: its bytes are those from the place on, x is its answer, and m′ the memory that it leaves
-module _ (pl : Place) (m m′ : Mem) (w : List ℕ) (at : ℕ) (x : Turn) where
-  pub record Taken : Type 0 where
-    pub within : at ≤ length w
-    pub ahead-of : ahead pl m (drop at w) ≡ ahead First blank w
-    pub answer : x ≡ turn pl (controlOf m) (drop at w)
-    pub words : m′ ≡ turned pl m (drop at w)
+-- ---- where all that is ahead is an ending and a memory, they are the trace's
+at-last : (w : List ℕ) {x : Ending} {m : Mem} → ahead First blank w ≡ record { ending = x; words = m } → (x ≡ outcome w .ending) × (m ≡ traceWords w)
+at-last w e =
+    let same = sym e ∙ from-the-start w in
+    (ap (λ (a : Ahead). a .ending) same, ap (λ (a : Ahead). a .words) same)
 
-  pub taken : (at ≤ length w) × (ahead pl m (drop at w) ≡ ahead First blank w)
-      → (x ≡ turn pl (controlOf m) (take (length w - at) (drop at w))) × (m′ ≡ turned pl m (take (length w - at) (drop at w))) → Taken
-  taken l e = record { within = l .0; ahead-of = l .1; answer = rw rest at (e .0); words = rw rest at (e .1) }
+-- ---- the turn there: its bytes are those from the place on, x is its answer, and m′ the memory that it leaves
+pub record Taken (w : List ℕ) (pl : Place) (m m′ : Mem) (at : ℕ) (x : Turn) : Type 0 where
+  pub so : Reached w pl m at
+  pub answer : x ≡ turn pl (controlOf m) (drop at w)
+  pub words : m′ ≡ turned pl m (drop at w)
 
-  pub goes-far : {k : ℕ} {next : Place} {t : Told} → Taken → x ≡ Goes k next t → (0 < k) × (at + k ≤ length w)
+module _ {w : List ℕ} {pl : Place} {m m′ : Mem} {at : ℕ} {x : Turn} where
+  pub taken : Reached w pl m at
+      → (x ≡ turn pl (controlOf m) (take (length w - at) (drop at w))) × (m′ ≡ turned pl m (take (length w - at) (drop at w)))
+      → Taken w pl m m′ at x
+  taken h e = record { so = h; answer = rw rest at (e .0); words = rw rest at (e .1) }
+
+  pub goes-far : {k : ℕ} {next : Place} {t : Told} → Taken w pl m m′ at x → x ≡ Goes k next t → (0 < k) × (at + k ≤ length w)
   goes-far c e =
       let far = goes-within pl (controlOf m) (drop at w) (sym (c .answer) ∙ e) in
-      (far .0, omega (arith, far .1, length-drop at w, c .within))
+      (far .0, omega (arith, far .1, length-drop at w, c .so .within))
 
-  pub goes-on : {k : ℕ} {next : Place} {t : Told} → Taken → x ≡ Goes k next t → ahead next m′ (drop (at + k) w) ≡ ahead First blank w
-  goes-on {k} c e = rw (c .words, ← drop-drop k at w) (sym (goes-ahead pl m (drop at w) (sym (c .answer) ∙ e)) ∙ c .ahead-of)
+  pub goes-on : {k : ℕ} {next : Place} {t : Told} → Taken w pl m m′ at x → x ≡ Goes k next t → Reached w next m′ (at + k)
+  goes-on {k} c e =
+      record {
+        within = goes-far c e .1;
+        ahead-of = rw (c .words, ← drop-drop k at w) (sym (goes-ahead pl m (drop at w) (sym (c .answer) ∙ e)) ∙ c .so .ahead-of);
+      }
 
-  -- where it is the last, the trace has come to its end
-  at-last : {y : Ending} → ahead First blank w ≡ record { ending = y; words = m′ } → (y ≡ outcome w .ending) × (m′ ≡ traceWords w)
-  at-last e =
-      let same = sym e ∙ from-the-start w in
-      (ap (λ (a : Ahead). a .ending) same, ap (λ (a : Ahead). a .words) same)
+  pub more-last : Taken w pl m m′ at x → x ≡ More → (atEnd pl ≡ outcome w .ending) × (m′ ≡ traceWords w)
+  more-last c e = at-last w (rw (c .words) (sym (c .so .ahead-of) ∙ more-ahead pl m (drop at w) (sym (c .answer) ∙ e)))
 
-  pub more-last : Taken → x ≡ More → (atEnd pl ≡ outcome w .ending) × (m′ ≡ traceWords w)
-  more-last c e = at-last (rw (c .words) (sym (c .ahead-of) ∙ more-ahead pl m (drop at w) (sym (c .answer) ∙ e)))
-
-  pub ends-last : {y : Ending} → Taken → x ≡ Ends y → (y ≡ outcome w .ending) × (m′ ≡ traceWords w)
-  ends-last c e = at-last (rw (c .words) (sym (c .ahead-of) ∙ ends-ahead pl m (drop at w) (sym (c .answer) ∙ e)))
+  pub ends-last : {y : Ending} → Taken w pl m m′ at x → x ≡ Ends y → (y ≡ outcome w .ending) × (m′ ≡ traceWords w)
+  ends-last c e = at-last w (rw (c .words) (sym (c .so .ahead-of) ∙ ends-ahead pl m (drop at w) (sym (c .answer) ∙ e)))
