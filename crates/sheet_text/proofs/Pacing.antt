@@ -75,95 +75,99 @@ came {x} {w} {out₀} {out} {used} {written} {s} {m} {v} text l room wrote few e
     }
 
 -- ---- the loop that reads: x is the whole piece, and the rest of it is a piece from here on
-module _ (last : Bool) (x : Part) (out₀ w : List ℕ) where
-  pub record Gone (pl : Place) (m : Mem) (out : List ℕ) (used written : ℕ) : Type 0 where
-    pub within : used ≤ length w
-    pub room : written ≤ length out
-    pub text : List ℕ
-    pub wrote : Wrote out₀ out 0 written text
-    pub part : x ≡ adds used text (follow last (length out₀ - written) 0 pl m (drop used w))
+pub record Gone (last : Bool) (x : Part) (out₀ w : List ℕ) (pl : Place) (m : Mem) (out : List ℕ) (used written : ℕ) : Type 0 where
+  pub within : used ≤ length w
+  pub room : written ≤ length out
+  pub text : List ℕ
+  pub wrote : Wrote out₀ out 0 written text
+  pub part : x ≡ adds used text (follow last (length out₀ - written) 0 pl m (drop used w))
 
-  module _ (pl : Place) (m : Mem) (out : List ℕ) (used written : ℕ) where
-    pub full-came : Gone pl m out used written → length out - written < lineRoom
-        → Came x w out₀ (record { used = used; written = written; stand = Reads pl; wants = wants.Room }) m out
-    full-came h l =
-        came (h .text) (h .within) (h .room) (h .wrote) (λ e. absurd (not-room e))
-        (h .part
-        ∙ ap (adds used (h .text)) (full-is last (length out₀ - written) pl m (drop used w) (let long = wrote-length (h .wrote) in omega arith)))
+-- a turn, with room for a line
+pub record Turned (last : Bool) (x : Part) (out₀ w : List ℕ) (pl : Place) (m m′ : Mem) (out : List ℕ) (used written : ℕ) (t : Turn) : Type 0 where
+  pub so : Gone last x out₀ w pl m out used written
+  pub wide : lineRoom ≤ length out - written
+  pub answer : t ≡ turn pl (controlOf m) (drop used w)
+  pub words : m′ ≡ turned pl m (drop used w)
 
-    -- sends and receives taken all at once, with room for a line
-    pub hastened : {m′ : Mem} {more : ℕ} → Gone pl m out used written → lineRoom ≤ length out - written
-        → (more ≡ haste pl m (take (length w - used) (drop used w)) .used) × (m′ ≡ haste pl m (take (length w - used) (drop used w)) .words)
-        → Gone pl m′ out (used + more) written
-    hastened h wide e =
-        let long = wrote-length (h .wrote) in
-        let far = haste-within pl m (drop used w) in
-        let n = rw rest at (e .0) in
-        let q = rw rest at (e .1) in
-        record {
-          within = omega (arith, h .within, far, n, length-drop used w);
-          room = h .room;
-          text = h .text;
-          wrote = h .wrote;
-          part = rw (n, q) (haste-part last x (h .text) (length out₀ - written) (omega (arith, wide, long)) w used pl m (h .part));
-        }
+module _ {last : Bool} {x : Part} {out₀ w : List ℕ} {pl : Place} {m : Mem} {out : List ℕ} {used written : ℕ}
+    (h : Gone last x out₀ w pl m out used written) where
+  pub full-came : length out - written < lineRoom
+      → Came x w out₀ (record { used = used; written = written; stand = Reads pl; wants = wants.Room }) m out
+  full-came l =
+      came (h .text) (h .within) (h .room) (h .wrote) (λ e. absurd (not-room e))
+      (h .part
+      ∙ ap (adds used (h .text)) (full-is last (length out₀ - written) pl m (drop used w) (let long = wrote-length (h .wrote) in omega arith)))
 
-    -- a turn, with room for a line
-    module _ (m′ : Mem) (t : Turn) where
-      pub record Turned : Type 0 where
-        pub so : Gone pl m out used written
-        pub wide : lineRoom ≤ length out - written
-        pub answer : t ≡ turn pl (controlOf m) (drop used w)
-        pub words : m′ ≡ turned pl m (drop used w)
+  -- sends and receives taken all at once, with room for a line
+  pub hastened : {m′ : Mem} {more : ℕ} → lineRoom ≤ length out - written
+      → (more ≡ haste pl m (take (length w - used) (drop used w)) .used) × (m′ ≡ haste pl m (take (length w - used) (drop used w)) .words)
+      → Gone last x out₀ w pl m′ out (used + more) written
+  hastened wide e =
+      let long = wrote-length (h .wrote) in
+      let far = haste-within pl m (drop used w) in
+      let n = rw rest at (e .0) in
+      let q = rw rest at (e .1) in
+      record {
+        within = omega (arith, h .within, far, n, length-drop used w);
+        room = h .room;
+        text = h .text;
+        wrote = h .wrote;
+        part = rw (n, q) (haste-part last x (h .text) (length out₀ - written) (omega (arith, wide, long)) w used pl m (h .part));
+      }
 
-      pub took : Gone pl m out used written → lineRoom ≤ length out - written
-          → (t ≡ turn pl (controlOf m) (take (length w - used) (drop used w))) × (m′ ≡ turned pl m (take (length w - used) (drop used w))) → Turned
-      took h l e = record { so = h; wide = l; answer = rw rest at (e .0); words = rw rest at (e .1) }
+  -- a turn, with room for a line
+  pub took : {m′ : Mem} {t : Turn} → lineRoom ≤ length out - written
+      → (t ≡ turn pl (controlOf m) (take (length w - used) (drop used w))) × (m′ ≡ turned pl m (take (length w - used) (drop used w)))
+      → Turned last x out₀ w pl m m′ out used written t
+  took l e = record { so = h; wide = l; answer = rw rest at (e .0); words = rw rest at (e .1) }
 
-      pub goes-far : {k : ℕ} {place : Place} {y : Told} → Turned → t ≡ Goes k place y → (0 < k) × (used + k ≤ length w)
-      goes-far c e =
-          let far = goes-within pl (controlOf m) (drop used w) (sym (c .answer) ∙ e) in
-          (far .0, omega (arith, far .1, length-drop used w, c .so .within))
+-- ---- what comes of the turn
+module _ {last : Bool} {x : Part} {out₀ w : List ℕ} {pl : Place} {m m′ : Mem} {out : List ℕ} {used written : ℕ} {t : Turn}
+    (c : Turned last x out₀ w pl m m′ out used written t) where
+  pub goes-far : {k : ℕ} {place : Place} {y : Told} → t ≡ Goes k place y → (0 < k) × (used + k ≤ length w)
+  goes-far e =
+      let far = goes-within pl (controlOf m) (drop used w) (sym (c .answer) ∙ e) in
+      (far .0, omega (arith, far .1, length-drop used w, c .so .within))
 
-      decides : (c : Turned) (u : Turn) → t ≡ u
-          → x ≡ adds used (c .so .text) (onTurn last pl m′ u (λ k place y. follow last (length out₀ - written - length (toldText y)) 0 place m′ (drop k (drop used w))))
-      decides c u e =
-          let long = wrote-length (c .so .wrote) in
-          let q : turn pl (controlOf m) (drop used w) ≡ u = sym (c .answer) ∙ e in
-          rw (c .words)
-          (c .so .part
-          ∙ ap (adds used (c .so .text)) (turn-is last (length out₀ - written) pl m (drop used w) (omega (arith, c .wide, long)) ∙ rw q))
+  decides : (u : Turn) → t ≡ u
+      → x ≡ adds used (c .so .text) (onTurn last pl m′ u (λ k place y. follow last (length out₀ - written - length (toldText y)) 0 place m′ (drop k (drop used w))))
+  decides u e =
+      let long = wrote-length (c .so .wrote) in
+      let q : turn pl (controlOf m) (drop used w) ≡ u = sym (c .answer) ∙ e in
+      rw (c .words)
+      (c .so .part
+      ∙ ap (adds used (c .so .text)) (turn-is last (length out₀ - written) pl m (drop used w) (omega (arith, c .wide, long)) ∙ rw q))
 
-      pub goes-on : {k : ℕ} {place : Place} {y : Told} {out′ : List ℕ} {written′ : ℕ} → Turned → t ≡ Goes k place y
-          → (Wrote out out′ written written′ (toldText y)) × (written′ ≤ length out′) → Gone place m′ out′ (used + k) written′
-      unfolding onTurn
-      goes-on {k} {place} {y} {out′} {written′} c e p =
-          let less : length out₀ - written - length (toldText y) ≡ length out₀ - written′ = omega (arith, p .0 .place) in
-          record {
-            within = goes-far c e .1;
-            room = p .1;
-            text = c .so .text ++ toldText y;
-            wrote = wrote-one (c .so .wrote) (p .0);
-            part = decides c (Goes k place y) e ∙ adds-adds used k (c .so .text) (toldText y) _ ∙ rw (less, drop-drop k used w);
-          }
+  pub goes-on : {k : ℕ} {place : Place} {y : Told} {out′ : List ℕ} {written′ : ℕ} → t ≡ Goes k place y
+      → (Wrote out out′ written written′ (toldText y)) × (written′ ≤ length out′) → Gone last x out₀ w place m′ out′ (used + k) written′
+  unfolding onTurn
+  goes-on {k} {place} {y} {out′} {written′} e p =
+      let less : length out₀ - written - length (toldText y) ≡ length out₀ - written′ = omega (arith, p .0 .place) in
+      record {
+        within = goes-far e .1;
+        room = p .1;
+        text = c .so .text ++ toldText y;
+        wrote = wrote-one (c .so .wrote) (p .0);
+        part = decides (Goes k place y) e ∙ adds-adds used k (c .so .text) (toldText y) _ ∙ rw (less, drop-drop k used w);
+      }
 
-      pub ends-came : {y : Ending} {n : ℕ} → Turned → t ≡ Ends y → n ≡ endingNumber y
-          → Came x w out₀ (record { used = used; written = written; stand = Closes n 0; wants = wants.Room }) m′ out
-      unfolding onTurn
-      ends-came {y} c e q = rw q (came (c .so .text) (c .so .within) (c .so .room) (c .so .wrote) (λ i. absurd (not-room i)) (decides c (Ends y) e))
+  pub ends-came : {y : Ending} {n : ℕ} → t ≡ Ends y → n ≡ endingNumber y
+      → Came x w out₀ (record { used = used; written = written; stand = Closes n 0; wants = wants.Room }) m′ out
+  unfolding onTurn
+  ends-came {y} e q = rw q (came (c .so .text) (c .so .within) (c .so .room) (c .so .wrote) (λ i. absurd (not-room i)) (decides (Ends y) e))
 
-      pub more-came : ((i : ℕ) → getD w i 0 < 256) → Turned → t ≡ More → last ≡ false
-          → Came x w out₀ (record { used = used; written = written; stand = Reads pl; wants = wants.Input }) m′ out
-      unfolding onTurn waits
-      more-came bytes c e q =
-          let cut = more-cut pl (controlOf m) (drop used w) (sym (c .answer) ∙ e) in
-          let few = cut-short pl (drop used w) (rw (getD-drop used w 3 0) (bytes (used + 3))) cut in
-          came (c .so .text) (c .so .within) (c .so .room) (c .so .wrote) (λ i. omega (arith, few, length-drop used w)) (decides c More e ∙ rw q)
+  pub more-came : ((i : ℕ) → getD w i 0 < 256) → t ≡ More → last ≡ false
+      → Came x w out₀ (record { used = used; written = written; stand = Reads pl; wants = wants.Input }) m′ out
+  unfolding onTurn waits
+  more-came bytes e q =
+      let cut = more-cut pl (controlOf m) (drop used w) (sym (c .answer) ∙ e) in
+      let few = cut-short pl (drop used w) (rw (getD-drop used w 3 0) (bytes (used + 3))) cut in
+      came (c .so .text) (c .so .within) (c .so .room) (c .so .wrote) (λ i. omega (arith, few, length-drop used w)) (decides More e ∙ rw q)
 
-      pub last-came : {n : ℕ} {y : Ending} → Turned → t ≡ More → last ≡ true → y ≡ atEnd pl → n ≡ endingNumber y
-          → Came x w out₀ (record { used = used; written = written; stand = Closes n 0; wants = wants.Room }) m′ out
-      unfolding onTurn waits
-      last-came c e q a b = rw (b, a) (came (c .so .text) (c .so .within) (c .so .room) (c .so .wrote) (λ i. absurd (not-room i)) (decides c More e ∙ rw q))
+  pub last-came : {n : ℕ} {y : Ending} → t ≡ More → last ≡ true → y ≡ atEnd pl → n ≡ endingNumber y
+      → Came x w out₀ (record { used = used; written = written; stand = Closes n 0; wants = wants.Room }) m′ out
+  unfolding onTurn waits
+  last-came e q a b = rw (b, a) (came (c .so .text) (c .so .within) (c .so .room) (c .so .wrote) (λ i. absurd (not-room i)) (decides More e ∙ rw q))
 
 pub none-gone : (last : Bool) (out w : List ℕ) (pl : Place) (m : Mem) → Gone last (follow last (length out) 0 pl m w) out w pl m out 0 0
 none-gone last out w pl m =
@@ -185,47 +189,46 @@ module _ (m : Mem) (number k n : ℕ) (q : n ≡ people m) where
   closing-e l h e = rw (← q, le-ltb k n l, le-ltb k (n + n) h, ← e)
 
 -- ---- the loop that closes
-module _ (x : Part) (out₀ : List ℕ) (m : Mem) (number : ℕ) where
-  pub record Shut (out : List ℕ) (k written : ℕ) : Type 0 where
-    pub room : written ≤ length out
-    pub text : List ℕ
-    pub wrote : Wrote out₀ out 0 written text
-    pub part : x ≡ adds 0 text (closing (length out₀ - written) (closingCount m - k) number k m)
+pub record Shut (x : Part) (out₀ : List ℕ) (m : Mem) (number : ℕ) (out : List ℕ) (k written : ℕ) : Type 0 where
+  pub room : written ≤ length out
+  pub text : List ℕ
+  pub wrote : Wrote out₀ out 0 written text
+  pub part : x ≡ adds 0 text (closing (length out₀ - written) (closingCount m - k) number k m)
 
-  module _ (out : List ℕ) (k written : ℕ) (h : Shut out k written) where
-    pub all-came : closingCount m ≤ k → Came x [] out₀ (record { used = 0; written = written; stand = Closes number k; wants = wants.Nothing }) m out
-    unfolding closing
-    all-came l =
-        let e : closingCount m - k ≡ 0 = omega arith in
-        came (h .text) (omega arith) (h .room) (h .wrote) (λ i. absurd (not-nothing i)) (h .part ∙ rw e)
+module _ {x : Part} {out₀ : List ℕ} {m : Mem} {number : ℕ} {out : List ℕ} {k written : ℕ} (h : Shut x out₀ m number out k written) where
+  pub all-came : closingCount m ≤ k → Came x [] out₀ (record { used = 0; written = written; stand = Closes number k; wants = wants.Nothing }) m out
+  unfolding closing
+  all-came l =
+      let e : closingCount m - k ≡ 0 = omega arith in
+      came (h .text) (omega arith) (h .room) (h .wrote) (λ i. absurd (not-nothing i)) (h .part ∙ rw e)
 
-    -- a line is left
-    one-left : k < closingCount m → closingCount m - k ≡ suc (closingCount m - (k + 1))
-    one-left l = omega arith
+  -- a line is left
+  one-left : k < closingCount m → closingCount m - k ≡ suc (closingCount m - (k + 1))
+  one-left l = omega arith
 
-    pub short-came : k < closingCount m → length out - written < lineRoom
-        → Came x [] out₀ (record { used = 0; written = written; stand = Closes number k; wants = wants.Room }) m out
-    unfolding closing
-    short-came l short =
-        let long = wrote-length (h .wrote) in
-        came (h .text) (omega arith) (h .room) (h .wrote) (λ e. absurd (not-room e))
-        (h .part ∙ rw (one-left l, lt-ltb (length out₀ - written) lineRoom (omega arith)))
+  pub short-came : k < closingCount m → length out - written < lineRoom
+      → Came x [] out₀ (record { used = 0; written = written; stand = Closes number k; wants = wants.Room }) m out
+  unfolding closing
+  short-came l short =
+      let long = wrote-length (h .wrote) in
+      came (h .text) (omega arith) (h .room) (h .wrote) (λ e. absurd (not-room e))
+      (h .part ∙ rw (one-left l, lt-ltb (length out₀ - written) lineRoom (omega arith)))
 
-    pub line-on : {out′ : List ℕ} {written′ : ℕ} → k < closingCount m → lineRoom ≤ length out - written
-        → (Wrote out out′ written written′ (closingLine m number k)) × (written′ ≤ length out′) → Shut out′ (k + 1) written′
-    unfolding closing
-    line-on {out′} {written′} l wide p =
-        let long = wrote-length (h .wrote) in
-        let less : length out₀ - written - length (closingLine m number k) ≡ length out₀ - written′ = omega (arith, p .0 .place) in
-        record {
-          room = p .1;
-          text = h .text ++ closingLine m number k;
-          wrote = wrote-one (h .wrote) (p .0);
-          part =
-              h .part
-              ∙ rw (one-left l, le-ltb (length out₀ - written) lineRoom (omega arith))
-              (adds-adds 0 0 (h .text) (closingLine m number k) _ ∙ rw less);
-        }
+  pub line-on : {out′ : List ℕ} {written′ : ℕ} → k < closingCount m → lineRoom ≤ length out - written
+      → (Wrote out out′ written written′ (closingLine m number k)) × (written′ ≤ length out′) → Shut x out₀ m number out′ (k + 1) written′
+  unfolding closing
+  line-on {out′} {written′} l wide p =
+      let long = wrote-length (h .wrote) in
+      let less : length out₀ - written - length (closingLine m number k) ≡ length out₀ - written′ = omega (arith, p .0 .place) in
+      record {
+        room = p .1;
+        text = h .text ++ closingLine m number k;
+        wrote = wrote-one (h .wrote) (p .0);
+        part =
+            h .part
+            ∙ rw (one-left l, le-ltb (length out₀ - written) lineRoom (omega arith))
+            (adds-adds 0 0 (h .text) (closingLine m number k) _ ∙ rw less);
+      }
 
 pub none-shut : (out : List ℕ) (m : Mem) (number k : ℕ) → Shut (closing (length out) (closingCount m - k) number k m) out m number out k 0
 none-shut out m number k =

@@ -1,11 +1,11 @@
 -- `follow` takes a turn for each record, sends and receives all at once; before each, the piece is what is written so far and a piece from there on.
 -- Assumes nothing.
-use Prim.Native.Nat.{_-_}
+use Prim.Native.Nat.{_+_, _-_}
 use native.Mathlib.Omega.{arith}
 use lib.ListN.{length}
 use Rattle.lines.specs.Pieces as Pieces
 use Rattle.sheet_text.proofs.Writing.{wrote-length}
-use Rattle.sheet_text.proofs.Pacing.{Gone, none-gone, full-came, hastened, took, goes-far, goes-on, ends-came, more-came, last-came}
+use Rattle.sheet_text.proofs.Pacing.{Gone, none-gone, full-came, hastened, Turned, took, goes-far, goes-on, ends-came, more-came, last-came}
 use borrow.Author.Needs.{needs}
 use Rattle.sheet_text.proofs.follow.Statement.{statement}
 use Rattle.sheet_text.proofs.follow.Tie as tie
@@ -26,7 +26,7 @@ same-length : tie.Need-same-length Inv-loop μ-loop
 same-length c = wrote-length (c .before .loop .inv .wrote)
 
 returns : tie.Need-returns Inv-loop μ-loop
-returns c = full-came _ _ _ _ _ _ _ _ _ (c .before .loop .inv) (c .if1 .taken)
+returns c = full-came (c .before .loop .inv) (c .if1 .taken)
 
 sub-hasten : tie.Need-sub-hasten Inv-loop μ-loop
 sub-hasten c = c .before .before .loop .inv .within
@@ -41,29 +41,32 @@ hasten-requires : tie.Need-hasten-requires Inv-loop μ-loop
 hasten-requires c κs = search needs
 
 add-used : tie.Need-add-used Inv-loop μ-loop
-add-used c =
-    let l = c .before .before .before .before .loop in
-    let so = hastened _ _ _ _ _ _ _ _ _ (l .inv) (c .before .before .before .if1 .left) (c .hasten .ensures) in
-    let far = so .within in
-    omega arith
+add-used c = let now = hastened (c .before .before .before .before .loop .inv) (c .before .before .before .if1 .left) (c .hasten .ensures) in omega (arith, now .within)
 
 sub-one-record : tie.Need-sub-one-record Inv-loop μ-loop
-sub-one-record c =
-    let l = c .before .before .before .before .before .loop in
-    let so = hastened _ _ _ _ _ _ _ _ _ (l .inv) (c .before .before .before .before .if1 .left) (c .before .hasten .ensures) in
-    so .within
+sub-one-record c = hastened (c .before .before .before .before .before .loop .inv) (c .before .before .before .before .if1 .left) (c .before .hasten .ensures) .within
 
 part-one-record-start : tie.Need-part-one-record-start Inv-loop μ-loop
 part-one-record-start c =
-    let l = c .before .before .before .before .before .loop in
-    let so = hastened _ _ _ _ _ _ _ _ _ (l .inv) (c .before .before .before .before .if1 .left) (c .before .hasten .ensures) in
-    omega (arith, so .within)
+    let now = hastened (c .before .before .before .before .before .loop .inv) (c .before .before .before .before .if1 .left) (c .before .hasten .ensures) in
+    omega (arith, now .within)
 
 part-one-record-end : tie.Need-part-one-record-end Inv-loop μ-loop
 part-one-record-end c = search needs
 
 one-record-requires : tie.Need-one-record-requires Inv-loop μ-loop
 one-record-requires c κs = search needs
+
+-- the turn of a record, behind the sends and receives before it
+turn : (c : tie.After-one-record Inv-loop μ-loop)
+    → let a = c .before .before .before .before .before .before .before .before .before .before .args in
+    let l = c .before .before .before .before .before .before .before .loop in
+    let h = c .before .before .before .hasten in
+    Turned (a .last) (Pieces.follow (a .last) (length (a .out .now)) 0 (a .place) (a .run .now) (a .window .now)) (a .out .now) (a .window .now)
+    (l .here) (h .last .0) (c .one-record .last .0) (l .out) (l .used + h .result) (l .written) (c .one-record .result)
+turn c =
+    let wide = c .before .before .before .before .before .before .if1 .left in
+    took (hastened (c .before .before .before .before .before .before .before .loop .inv) wide (c .before .before .before .hasten .ensures)) wide (c .one-record .ensures .0)
 
 enum-told : tie.Need-enum-told Inv-loop μ-loop
 enum-told c = search needs
@@ -78,21 +81,14 @@ same-length-2 : tie.Need-same-length-2 Inv-loop μ-loop
 same-length-2 c = wrote-length (c .before .before .before .before .before .before .before .before .before .before .before .before .loop .inv .wrote)
 
 returns-2 : tie.Need-returns-2 Inv-loop μ-loop
-returns-2 c =
-    let l = c .before .before .before .before .before .before .before .before .before .before .before .before .loop in
-    let so = hastened _ _ _ _ _ _ _ _ _ (l .inv) (c .before .before .before .before .before .before .before .before .before .before .before .if1 .left) (c .before .before .before .before .before .before .before .before .hasten .ensures) in
-    let h = took _ _ _ _ _ _ _ _ _ _ _ so (c .before .before .before .before .before .before .before .before .before .before .before .if1 .left) (c .before .before .before .before .before .one-record .ensures .0) in
-    last-came _ _ _ _ _ _ _ _ _ _ _ h (c .before .before .before .enum-told .given .1) (c .before .before .if2 .taken) (c .before .at-end .ensures) (c .number .ensures)
+returns-2 c = last-came (turn (c .before .before .before .before .before)) (c .before .before .before .enum-told .given .1) (c .before .before .if2 .taken) (c .before .at-end .ensures) (c .number .ensures)
 
 same-length-3 : tie.Need-same-length-3 Inv-loop μ-loop
 same-length-3 c = wrote-length (c .before .before .before .before .before .before .before .before .before .before .loop .inv .wrote)
 
 returns-3 : tie.Need-returns-3 Inv-loop μ-loop
 returns-3 c =
-    let l = c .before .before .before .before .before .before .before .before .before .before .loop in
-    let so = hastened _ _ _ _ _ _ _ _ _ (l .inv) (c .before .before .before .before .before .before .before .before .before .if1 .left) (c .before .before .before .before .before .before .hasten .ensures) in
-    let h = took _ _ _ _ _ _ _ _ _ _ _ so (c .before .before .before .before .before .before .before .before .before .if1 .left) (c .before .before .before .one-record .ensures .0) in
-    more-came _ _ _ _ _ _ _ _ _ _ _ (λ i. omega (arith, c .before .before .before .before .before .before .before .before .before .before .before .before .shared-slice-known .given i)) h (c .before .enum-told .given .1) (c .if2 .left)
+    more-came (turn (c .before .before .before)) (λ i. omega (arith, c .before .before .before .before .before .before .before .before .before .before .before .before .shared-slice-known .given i)) (c .before .enum-told .given .1) (c .if2 .left)
 
 enum-known-t : tie.Need-enum-known-t Inv-loop μ-loop
 enum-known-t c = search needs
@@ -102,26 +98,16 @@ put-told-requires c κs = omega arith
 
 add-used-2 : tie.Need-add-used-2 Inv-loop μ-loop
 add-used-2 c =
-    let l = c .before .before .before .before .before .before .before .before .before .before .before .before .before .before .loop in
-    let so = hastened _ _ _ _ _ _ _ _ _ (l .inv) (c .before .before .before .before .before .before .before .before .before .before .before .before .before .if1 .left) (c .before .before .before .before .before .before .before .before .before .before .hasten .ensures) in
-    let h = took _ _ _ _ _ _ _ _ _ _ _ so (c .before .before .before .before .before .before .before .before .before .before .before .before .before .if1 .left) (c .before .before .before .before .before .before .before .one-record .ensures .0) in
-    let far = goes-far _ _ _ _ _ _ _ _ _ _ _ h (c .before .before .before .before .before .t .given .1) in
+    let far = goes-far (turn (c .before .before .before .before .before .before .before)) (c .before .before .before .before .before .t .given .1) in
     omega arith
 
 loop-less : tie.Need-loop-less Inv-loop μ-loop
 loop-less c =
-    let l = c .before .before .before .before .before .before .before .before .before .before .before .before .before .before .loop in
-    let so = hastened _ _ _ _ _ _ _ _ _ (l .inv) (c .before .before .before .before .before .before .before .before .before .before .before .before .before .if1 .left) (c .before .before .before .before .before .before .before .before .before .before .hasten .ensures) in
-    let h = took _ _ _ _ _ _ _ _ _ _ _ so (c .before .before .before .before .before .before .before .before .before .before .before .before .before .if1 .left) (c .before .before .before .before .before .before .before .one-record .ensures .0) in
-    let far = goes-far _ _ _ _ _ _ _ _ _ _ _ h (c .before .before .before .before .before .t .given .1) in
+    let far = goes-far (turn (c .before .before .before .before .before .before .before)) (c .before .before .before .before .before .t .given .1) in
     omega arith
 
 loop-again : tie.Need-loop-again Inv-loop μ-loop
-loop-again c =
-    let l = c .before .before .before .before .before .before .before .before .before .before .before .before .before .before .loop in
-    let so = hastened _ _ _ _ _ _ _ _ _ (l .inv) (c .before .before .before .before .before .before .before .before .before .before .before .before .before .if1 .left) (c .before .before .before .before .before .before .before .before .before .before .hasten .ensures) in
-    let h = took _ _ _ _ _ _ _ _ _ _ _ so (c .before .before .before .before .before .before .before .before .before .before .before .before .before .if1 .left) (c .before .before .before .before .before .before .before .one-record .ensures .0) in
-    goes-on _ _ _ _ _ _ _ _ _ _ _ h (c .before .before .before .before .before .t .given .1) (c .before .before .put-told .ensures)
+loop-again c = goes-on (turn (c .before .before .before .before .before .before .before)) (c .before .before .before .before .before .t .given .1) (c .before .before .put-told .ensures)
 
 enum-known-t-2 : tie.Need-enum-known-t-2 Inv-loop μ-loop
 enum-known-t-2 c = search needs
@@ -133,11 +119,7 @@ same-length-4 : tie.Need-same-length-4 Inv-loop μ-loop
 same-length-4 c = wrote-length (c .before .before .before .before .before .before .before .before .before .before .before .loop .inv .wrote)
 
 returns-4 : tie.Need-returns-4 Inv-loop μ-loop
-returns-4 c =
-    let l = c .before .before .before .before .before .before .before .before .before .before .before .loop in
-    let so = hastened _ _ _ _ _ _ _ _ _ (l .inv) (c .before .before .before .before .before .before .before .before .before .before .if1 .left) (c .before .before .before .before .before .before .before .hasten .ensures) in
-    let h = took _ _ _ _ _ _ _ _ _ _ _ so (c .before .before .before .before .before .before .before .before .before .before .if1 .left) (c .before .before .before .before .one-record .ensures .0) in
-    ends-came _ _ _ _ _ _ _ _ _ _ _ h (c .before .before .t2 .given .1) (c .number2 .ensures)
+returns-4 c = ends-came (turn (c .before .before .before .before)) (c .before .before .t2 .given .1) (c .number2 .ensures)
 
 pub follow-spec : {M : Type 1} → statement M
 follow-spec =
