@@ -218,72 +218,78 @@ module _ (m : Mem) (w : List ℕ) where
   unfolding swift goes left
   too-few l = (rw (lt-ltb (length w) swiftExtent l), rw (lt-ltb (length w) swiftExtent l))
 
-  module _ (r : ℕ) (a : getD w 0 0 < 256) (b : getD w 1 0 < 256) (c : getD w 2 0 < 256)
-      (e : r ≡ getD w 0 0 * 65536 + getD w 1 0 * 256 + getD w 2 0) (long : swiftExtent ≤ length w) where
-    is-send : headIs 16 w ≡ eqb r 1048578
-    is-send = head-is w 16 r a b c e
+-- the head of the bytes, as the one number that the code reads
+pub record Numbered (w : List ℕ) (r : ℕ) : Type 0 where
+  pub long : swiftExtent ≤ length w
+  pub bytes : (i : ℕ) → getD w i 0 < 256
+  pub number : r ≡ getD w 0 0 * 65536 + getD w 1 0 * 256 + getD w 2 0
 
-    is-receive : headIs 17 w ≡ eqb r 1114114
-    is-receive = head-is w 17 r a b c e
+module _ (m : Mem) {w : List ℕ} {r : ℕ} (h : Numbered w r) where
+  whole-is : ltb (length w) swiftExtent ≡ false
+  whole-is = le-ltb (length w) swiftExtent (h .long)
 
-    pub found-send : {v : Verdict} {n : Mem} {k : ℕ} → r ≡ 1048578 → (v ≡ verdict (controlOf m) (Send (getD w 3 0) (getD w 4 0)))
-        × (n ≡ applied m (Send (getD w 3 0) (getD w 4 0))) → k ≡ numberOf v → Found (eqb k 0) n
-    unfolding swift goes left accepted
-    found-send h s q =
-        (rw (le-ltb (length w) swiftExtent long, is-send, eq-eqb r 1048578 h, q, s .0), rw (le-ltb (length w) swiftExtent long, is-send, eq-eqb r 1048578 h) (s .1))
+  is-send : headIs 16 w ≡ eqb r 1048578
+  is-send = head-is w 16 r (h .bytes 0) (h .bytes 1) (h .bytes 2) (h .number)
 
-    pub found-receive : {v : Verdict} {n : Mem} {k : ℕ} → (r ≡ 1048578 → ⊥) → r ≡ 1114114
-        → (v ≡ verdict (controlOf m) (Receive (getD w 3 0) (getD w 4 0))) × (n ≡ applied m (Receive (getD w 3 0) (getD w 4 0))) → k ≡ numberOf v
-        → Found (eqb k 0) n
-    unfolding swift goes left accepted
-    found-receive g h s q = (
-      rw (le-ltb (length w) swiftExtent long, is-send, ne-eqb r 1048578 g, is-receive, eq-eqb r 1114114 h, q, s .0),
-      rw (le-ltb (length w) swiftExtent long, is-send, ne-eqb r 1048578 g, is-receive, eq-eqb r 1114114 h) (s .1),
-    )
+  is-receive : headIs 17 w ≡ eqb r 1114114
+  is-receive = head-is w 17 r (h .bytes 0) (h .bytes 1) (h .bytes 2) (h .number)
 
-    pub found-none : (r ≡ 1048578 → ⊥) → (r ≡ 1114114 → ⊥) → Found false m
-    unfolding swift goes left
-    found-none g h = (
-      rw (le-ltb (length w) swiftExtent long, is-send, ne-eqb r 1048578 g, is-receive, ne-eqb r 1114114 h),
-      rw (le-ltb (length w) swiftExtent long, is-send, ne-eqb r 1048578 g, is-receive, ne-eqb r 1114114 h),
-    )
+  pub found-send : {v : Verdict} {n : Mem} {k : ℕ} → r ≡ 1048578 → (v ≡ verdict (controlOf m) (Send (getD w 3 0) (getD w 4 0)))
+      × (n ≡ applied m (Send (getD w 3 0) (getD w 4 0))) → k ≡ numberOf v → Found m w (eqb k 0) n
+  unfolding swift goes left accepted
+  found-send e s q = (rw (whole-is, is-send, eq-eqb r 1048578 e, q, s .0), rw (whole-is, is-send, eq-eqb r 1048578 e) (s .1))
+
+  pub found-receive : {v : Verdict} {n : Mem} {k : ℕ} → (r ≡ 1048578 → ⊥) → r ≡ 1114114
+      → (v ≡ verdict (controlOf m) (Receive (getD w 3 0) (getD w 4 0))) × (n ≡ applied m (Receive (getD w 3 0) (getD w 4 0))) → k ≡ numberOf v
+      → Found m w (eqb k 0) n
+  unfolding swift goes left accepted
+  found-receive f e s q = (
+    rw (whole-is, is-send, ne-eqb r 1048578 f, is-receive, eq-eqb r 1114114 e, q, s .0),
+    rw (whole-is, is-send, ne-eqb r 1048578 f, is-receive, eq-eqb r 1114114 e) (s .1),
+  )
+
+  pub found-none : (r ≡ 1048578 → ⊥) → (r ≡ 1114114 → ⊥) → Found m w false m
+  unfolding swift goes left
+  found-none f g = (
+    rw (whole-is, is-send, ne-eqb r 1048578 f, is-receive, ne-eqb r 1114114 g),
+    rw (whole-is, is-send, ne-eqb r 1048578 f, is-receive, ne-eqb r 1114114 g),
+  )
 
 -- ---- the loop over them: at a place, all that is taken is what was taken so far and what is taken from there on
-module _ (m₀ : Mem) (w : List ℕ) where
-  pub record Hurried (m : Mem) (at : ℕ) : Type 0 where
-    pub within : at ≤ length w
-    pub used : hasteBehind 0 m₀ w .used ≡ at + hasteBehind 0 m (drop at w) .used
-    pub words : hasteBehind 0 m₀ w .words ≡ hasteBehind 0 m (drop at w) .words
+pub record Hurried (m₀ : Mem) (w : List ℕ) (m : Mem) (at : ℕ) : Type 0 where
+  pub within : at ≤ length w
+  pub used : hasteBehind 0 m₀ w .used ≡ at + hasteBehind 0 m (drop at w) .used
+  pub words : hasteBehind 0 m₀ w .words ≡ hasteBehind 0 m (drop at w) .words
 
-  module _ (m n : Mem) (at : ℕ) (b : Bool) (h : Hurried m at) (f : Found m (take (length w - at) (drop at w)) b n) where
-    found : Found m (drop at w) b n
-    found = (rw rest at (f .0), rw rest at (f .1))
+module _ {m₀ : Mem} {w : List ℕ} {m n : Mem} {at : ℕ} {b : Bool} (h : Hurried m₀ w m at) (f : Found m (take (length w - at) (drop at w)) b n) where
+  found : Found m (drop at w) b n
+  found = (rw rest at (f .0), rw rest at (f .1))
 
-    pub hurries-far : b ≡ true → at + swiftExtent ≤ length w
-    hurries-far e =
-        let l = whole m (drop at w) (sym (found .0) ∙ e) in
-        omega (arith, h .within, l, length-drop at w)
+  pub hurries-far : b ≡ true → at + swiftExtent ≤ length w
+  hurries-far e =
+      let l = whole m (drop at w) (sym (found .0) ∙ e) in
+      omega (arith, h .within, l, length-drop at w)
 
-    pub hurries-on : b ≡ true → Hurried n (at + swiftExtent)
-    unfolding further
-    hurries-on e =
-        let far = hurries-far e in
-        let on = goes-haste m (drop at w) (sym (found .0) ∙ e) in
-        let next : drop swiftExtent (drop at w) ≡ drop (at + swiftExtent) w = drop-drop swiftExtent at w in
-        let more : hasteBehind 0 m (drop at w) .used ≡ swiftExtent + hasteBehind 0 n (drop (at + swiftExtent) w) .used
-        = rw (found .1, ← next) (ap (λ (x : Haste). x .used) on) in
-        record {
-          within = far;
-          used = omega (arith, h .used, more);
-          words = h .words ∙ rw (found .1, ← next) (ap (λ (x : Haste). x .words) on);
-        }
+  pub hurries-on : b ≡ true → Hurried m₀ w n (at + swiftExtent)
+  unfolding further
+  hurries-on e =
+      let far = hurries-far e in
+      let on = goes-haste m (drop at w) (sym (found .0) ∙ e) in
+      let next : drop swiftExtent (drop at w) ≡ drop (at + swiftExtent) w = drop-drop swiftExtent at w in
+      let more : hasteBehind 0 m (drop at w) .used ≡ swiftExtent + hasteBehind 0 n (drop (at + swiftExtent) w) .used
+      = rw (found .1, ← next) (ap (λ (x : Haste). x .used) on) in
+      record {
+        within = far;
+        used = omega (arith, h .used, more);
+        words = h .words ∙ rw (found .1, ← next) (ap (λ (x : Haste). x .words) on);
+      }
 
-    pub hurries-no-more : b ≡ false → (at ≡ hasteBehind 0 m₀ w .used) × (n ≡ hasteBehind 0 m₀ w .words)
-    unfolding stays
-    hurries-no-more e =
-        let off = stays-haste m (drop at w) (sym (found .0) ∙ e) in
-        let none : hasteBehind 0 m (drop at w) .used ≡ 0 = ap (λ (x : Haste). x .used) off in
-        (omega (arith, h .used, none), found .1 ∙ sym (h .words ∙ ap (λ (x : Haste). x .words) off))
+  pub hurries-no-more : b ≡ false → (at ≡ hasteBehind 0 m₀ w .used) × (n ≡ hasteBehind 0 m₀ w .words)
+  unfolding stays
+  hurries-no-more e =
+      let off = stays-haste m (drop at w) (sym (found .0) ∙ e) in
+      let none : hasteBehind 0 m (drop at w) .used ≡ 0 = ap (λ (x : Haste). x .used) off in
+      (omega (arith, h .used, none), found .1 ∙ sym (h .words ∙ ap (λ (x : Haste). x .words) off))
 
 pub not-yet : (m : Mem) (w : List ℕ) → Hurried m w m 0
 not-yet m w = record { within = omega arith; used = omega arith; words = refl }

@@ -1,7 +1,7 @@
 -- `swift` reads tag and length as one number, and hands a send or a receive to the machine.
 -- Assumes nothing.
 use native.Mathlib.Omega.{arith}
-use Rattle.trace.proofs.Hastening.{too-few, found-send, found-receive, found-none}
+use Rattle.trace.proofs.Hastening.{too-few, Numbered, found-send, found-receive, found-none}
 use borrow.Author.Needs.{needs}
 use Rattle.trace.proofs.swift.Statement.{statement}
 use Rattle.trace.proofs.swift.Tie as tie
@@ -11,6 +11,15 @@ returns c = let a = c .before .before .args in too-few (a .run .now) (a .bytes .
 
 head-requires : tie.Need-head-requires
 head-requires c κs = search needs
+
+-- what is known of the number that was read
+numbered : (c : tie.After-head) → Numbered (c .before .before .before .args .bytes .now) (c .head .result)
+numbered c =
+    record {
+      long = c .before .if1 .left;
+      bytes = λ i. omega (arith, c .before .before .shared-slice-known .given i);
+      number = c .head .ensures;
+    }
 
 shared-slice-read-send : tie.Need-shared-slice-read-send
 shared-slice-read-send c = search needs
@@ -26,9 +35,7 @@ number-requires c κs = search needs
 
 returns-2 : tie.Need-returns-2
 returns-2 c =
-    let a = c .before .before .before .before .before .before .before .before .before .args in
-    found-send (a .run .now) (a .bytes .now) (c .before .before .before .before .before .before .head .result) (omega (arith, c .before .before .before .before .before .before .before .before .shared-slice-known .given 0)) (omega (arith, c .before .before .before .before .before .before .before .before .shared-slice-known .given 1)) (omega (arith, c .before .before .before .before .before .before .before .before .shared-slice-known .given 2)) (c .before .before .before .before .before .before .head .ensures) (c .before .before .before .before .before .before .before .if1 .left) (c .before .before .before .before .before .if2 .taken)
-    (c .before .send .ensures .0) (c .number .ensures)
+    found-send (c .before .before .before .before .before .before .before .before .before .args .run .now) (numbered (c .before .before .before .before .before .before)) (c .before .before .before .before .before .if2 .taken) (c .before .send .ensures .0) (c .number .ensures)
 
 shared-slice-read-receive : tie.Need-shared-slice-read-receive
 shared-slice-read-receive c = search needs
@@ -44,14 +51,11 @@ number-requires-2 c κs = search needs
 
 returns-3 : tie.Need-returns-3
 returns-3 c =
-    let a = c .before .before .before .before .before .before .before .before .before .before .args in
-    found-receive (a .run .now) (a .bytes .now) (c .before .before .before .before .before .before .before .head .result) (omega (arith, c .before .before .before .before .before .before .before .before .before .shared-slice-known .given 0)) (omega (arith, c .before .before .before .before .before .before .before .before .before .shared-slice-known .given 1)) (omega (arith, c .before .before .before .before .before .before .before .before .before .shared-slice-known .given 2)) (c .before .before .before .before .before .before .before .head .ensures) (c .before .before .before .before .before .before .before .before .if1 .left) (c .before .before .before .before .before .before .if2 .left)
-    (c .before .before .before .before .before .if3 .taken) (c .before .receive .ensures .0) (c .number2 .ensures)
+    found-receive (c .before .before .before .before .before .before .before .before .before .before .args .run .now) (numbered (c .before .before .before .before .before .before .before)) (c .before .before .before .before .before .before .if2 .left) (c .before .before .before .before .before .if3 .taken)
+    (c .before .receive .ensures .0) (c .number2 .ensures)
 
 returns-4 : tie.Need-returns-4
-returns-4 c =
-    let a = c .before .before .before .before .before .args in
-    found-none (a .run .now) (a .bytes .now) (c .before .before .head .result) (omega (arith, c .before .before .before .before .shared-slice-known .given 0)) (omega (arith, c .before .before .before .before .shared-slice-known .given 1)) (omega (arith, c .before .before .before .before .shared-slice-known .given 2)) (c .before .before .head .ensures) (c .before .before .before .if1 .left) (c .before .if2 .left) (c .if3 .left)
+returns-4 c = found-none (c .before .before .before .before .before .args .run .now) (numbered (c .before .before)) (c .before .if2 .left) (c .if3 .left)
 
 pub swift-spec : {M : Type 1} → statement M
 swift-spec =

@@ -30,16 +30,16 @@ swift-requires : tie.Need-swift-requires Inv-loop μ-loop
 swift-requires c κs = search needs
 
 add-at : tie.Need-add-at Inv-loop μ-loop
-add-at c = let far = hurries-far _ _ _ _ _ _ (c .before .before .before .before .loop .inv) (c .before .swift .ensures) (c .if1 .taken) in omega arith
+add-at c = let far = hurries-far (c .before .before .before .before .loop .inv) (c .before .swift .ensures) (c .if1 .taken) in omega arith
 
 loop-less : tie.Need-loop-less Inv-loop μ-loop
-loop-less c = let far = hurries-far _ _ _ _ _ _ (c .before .before .before .before .loop .inv) (c .before .swift .ensures) (c .if1 .taken) in omega arith
+loop-less c = let far = hurries-far (c .before .before .before .before .loop .inv) (c .before .swift .ensures) (c .if1 .taken) in omega arith
 
 loop-again : tie.Need-loop-again Inv-loop μ-loop
-loop-again c = hurries-on _ _ _ _ _ _ (c .before .before .before .before .loop .inv) (c .before .swift .ensures) (c .if1 .taken)
+loop-again c = hurries-on (c .before .before .before .before .loop .inv) (c .before .swift .ensures) (c .if1 .taken)
 
 returns : tie.Need-returns Inv-loop μ-loop
-returns c = hurries-no-more _ _ _ _ _ _ (c .before .before .before .before .loop .inv) (c .before .swift .ensures) (c .if1 .left)
+returns c = hurries-no-more (c .before .before .before .before .loop .inv) (c .before .swift .ensures) (c .if1 .left)
 
 pub swiftly-spec : {M : Type 1} → statement M
 swiftly-spec =
