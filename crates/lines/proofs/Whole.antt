@@ -26,7 +26,7 @@ use Rattle.trace.specs.declared.Turn.{Turn}
 use Rattle.trace.specs.declared.Turn.the-variants.{More, Goes, Ends}
 use Rattle.trace.specs.Outcome.{endingNumber, atEnd, outcome}
 use Rattle.trace.specs.Turns.{reportsOf, turn, turned, traceWords}
-use Rattle.trace.proofs.Turning.{Ahead, ahead, more-ahead, goes-ahead, ends-ahead, from-the-start}
+use Rattle.trace.proofs.Turning.{ahead, more-ahead, goes-ahead, ends-ahead, ahead-ends}
 use Rattle.trace.proofs.Telling.{toldAhead, more-tells, goes-tells, ends-tells, told-from-the-start}
 use Rattle.trace.proofs.Pausing.{no-bytes, goes-not, ends-not, more-kept, turn-more, turned-more}
 use Rattle.trace.proofs.Looping.{goes-within}
@@ -147,13 +147,8 @@ module _ (w unread : List ℕ) where
       → Closing (endingNumber x) 0 m text
   unfolding linesBelow
   closes x m text e h =
-      let same = sym e ∙ from-the-start w in
-      record {
-        right = ap (λ (a : Ahead). endingNumber (a .ending)) same;
-        words = ap (λ (a : Ahead). a .words) same;
-        within = omega arith;
-        lines = rw h (sym (append-nil text));
-      }
+      let is = ahead-ends w e in
+      record { right = ap endingNumber (is .0); words = is .1; within = omega arith; lines = rw h (sym (append-nil text)) }
 
   -- ---- a turn on the bytes at hand
   module _ (pl : Place) (m : Mem) (held text : List ℕ) (h : Reading pl m held text) where

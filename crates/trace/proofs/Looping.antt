@@ -2,7 +2,7 @@
 -- trace leaves ahead. Assumes nothing.
 use Prim.Native.Nat.{ℕ, _+_, _-_, _≤_, _<_}
 use native.Mathlib.Omega.{arith}
-use mathlib.Core.Path.{_≡_, sym, ap, _∙_, subst}
+use mathlib.Core.Path.{_≡_, sym, _∙_, subst}
 use mathlib.Core.Bool.{Bool, true, false, cond}
 use mathlib.Core.List.{List}
 use lib.ListN.{length, take, drop, length-drop}
@@ -29,7 +29,7 @@ use Rattle.trace.specs.Outcome.{atEnd, outcome}
 use Rattle.trace.specs.Turns.{onAnswer, onOpening, turnOn, turn, turned, traceWords}
 use Rattle.trace.specs.Haste.{haste}
 use Rattle.trace.proofs.Hastening.{haste-within, haste-ahead}
-use Rattle.trace.proofs.Turning.{Ahead, ahead, more-ahead, goes-ahead, ends-ahead, from-the-start}
+use Rattle.trace.proofs.Turning.{ahead, more-ahead, goes-ahead, ends-ahead, ahead-ends}
 
 -- ---- an accepted record goes over a byte at least, and no further than the bytes
 Within : List ℕ → Turn → Type 0
@@ -76,38 +76,32 @@ hastened {w} {pl} {m} {m′} {at} h e =
       ahead-of = rw (used, words, ← drop-drop (haste pl m (drop at w) .used) at w) (sym (haste-ahead pl m (drop at w)) ∙ h .ahead-of);
     }
 
--- ---- where all that is ahead is an ending and a memory, they are the trace's
-at-last : (w : List ℕ) {x : Ending} {m : Mem} → ahead First blank w ≡ record { ending = x; words = m } → (x ≡ outcome w .ending) × (m ≡ traceWords w)
-at-last w e =
-    let same = sym e ∙ from-the-start w in
-    (ap (λ (a : Ahead). a .ending) same, ap (λ (a : Ahead). a .words) same)
-
 -- ---- the turn there: its bytes are those from the place on, x is its answer, and m′ the memory that it leaves
 pub record Taken (w : List ℕ) (pl : Place) (m m′ : Mem) (at : ℕ) (x : Turn) : Type 0 where
   pub so : Reached w pl m at
   pub answer : x ≡ turn pl (controlOf m) (drop at w)
   pub words : m′ ≡ turned pl m (drop at w)
 
-module _ {w : List ℕ} {pl : Place} {m m′ : Mem} {at : ℕ} {x : Turn} where
-  pub taken : Reached w pl m at
-      → (x ≡ turn pl (controlOf m) (take (length w - at) (drop at w))) × (m′ ≡ turned pl m (take (length w - at) (drop at w)))
-      → Taken w pl m m′ at x
-  taken h e = record { so = h; answer = rw rest at (e .0); words = rw rest at (e .1) }
+pub taken : {w : List ℕ} {pl : Place} {m m′ : Mem} {at : ℕ} {x : Turn} → Reached w pl m at
+    → (x ≡ turn pl (controlOf m) (take (length w - at) (drop at w))) × (m′ ≡ turned pl m (take (length w - at) (drop at w)))
+    → Taken w pl m m′ at x
+taken h e = record { so = h; answer = rw rest at (e .0); words = rw rest at (e .1) }
 
-  pub goes-far : {k : ℕ} {next : Place} {t : Told} → Taken w pl m m′ at x → x ≡ Goes k next t → (0 < k) × (at + k ≤ length w)
-  goes-far c e =
+module _ {w : List ℕ} {pl : Place} {m m′ : Mem} {at : ℕ} {x : Turn} (c : Taken w pl m m′ at x) where
+  pub goes-far : {k : ℕ} {next : Place} {t : Told} → x ≡ Goes k next t → (0 < k) × (at + k ≤ length w)
+  goes-far e =
       let far = goes-within pl (controlOf m) (drop at w) (sym (c .answer) ∙ e) in
       (far .0, omega (arith, far .1, length-drop at w, c .so .within))
 
-  pub goes-on : {k : ℕ} {next : Place} {t : Told} → Taken w pl m m′ at x → x ≡ Goes k next t → Reached w next m′ (at + k)
-  goes-on {k} c e =
+  pub goes-on : {k : ℕ} {next : Place} {t : Told} → x ≡ Goes k next t → Reached w next m′ (at + k)
+  goes-on {k} e =
       record {
-        within = goes-far c e .1;
+        within = goes-far e .1;
         ahead-of = rw (c .words, ← drop-drop k at w) (sym (goes-ahead pl m (drop at w) (sym (c .answer) ∙ e)) ∙ c .so .ahead-of);
       }
 
-  pub more-last : Taken w pl m m′ at x → x ≡ More → (atEnd pl ≡ outcome w .ending) × (m′ ≡ traceWords w)
-  more-last c e = at-last w (rw (c .words) (sym (c .so .ahead-of) ∙ more-ahead pl m (drop at w) (sym (c .answer) ∙ e)))
+  pub more-last : x ≡ More → (atEnd pl ≡ outcome w .ending) × (m′ ≡ traceWords w)
+  more-last e = ahead-ends w (rw (c .words) (sym (c .so .ahead-of) ∙ more-ahead pl m (drop at w) (sym (c .answer) ∙ e)))
 
-  pub ends-last : {y : Ending} → Taken w pl m m′ at x → x ≡ Ends y → (y ≡ outcome w .ending) × (m′ ≡ traceWords w)
-  ends-last c e = at-last w (rw (c .words) (sym (c .so .ahead-of) ∙ ends-ahead pl m (drop at w) (sym (c .answer) ∙ e)))
+  pub ends-last : {y : Ending} → x ≡ Ends y → (y ≡ outcome w .ending) × (m′ ≡ traceWords w)
+  ends-last e = ahead-ends w (rw (c .words) (sym (c .so .ahead-of) ∙ ends-ahead pl m (drop at w) (sym (c .answer) ∙ e)))

@@ -1,7 +1,7 @@
 -- A trace read record by record: what is ahead of a reading, before a record and after it. So a loop that takes a turn for each record comes to
 -- what the whole trace comes to. Assumes nothing.
 use Prim.Native.Nat.{ℕ, _+_, _*_}
-use mathlib.Core.Path.{_≡_, refl, _∙_}
+use mathlib.Core.Path.{_≡_, refl, sym, ap, _∙_}
 use mathlib.Core.Bool.{Bool, true, false, cond}
 use mathlib.Core.List.{List}
 use lib.ListN.{length, drop}
@@ -169,3 +169,9 @@ from-the-start w = go (script First w) (parse First w)
     go s End = refl
     go s (Wrong x) = refl
     go s Cut = refl
+
+-- so where what is ahead from the start is an ending and a memory, these are the trace's
+pub ahead-ends : (w : List ℕ) {x : Ending} {m : Mem} → ahead First blank w ≡ ended x m → (x ≡ outcome w .ending) × (m ≡ traceWords w)
+ahead-ends w e =
+    let same = sym e ∙ from-the-start w in
+    (ap (λ (a : Ahead). a .ending) same, ap (λ (a : Ahead). a .words) same)

@@ -51,8 +51,9 @@ one-record-requires c κs = search needs
 
 -- the turn of a record, behind the sends and receives before it
 turn : (c : tie.After-one-record Inv-loop μ-loop)
-    → Taken (c .before .before .before .before .before .before .before .before .before .before .args .trace .now) (c .before .before .before .before .before .before .loop .place) (c .before .before .before .hasten .last .0) (c .one-record .last .0)
-    (c .before .before .before .before .before .before .loop .at + c .before .before .before .hasten .result) (c .one-record .result)
+    → let l = c .before .before .before .before .before .before .loop in
+    let h = c .before .before .before .hasten in
+    Taken (c .before .before .before .before .before .before .before .before .before .before .args .trace .now) (l .place) (h .last .0) (c .one-record .last .0) (l .at + h .result) (c .one-record .result)
 turn c = taken (hastened (c .before .before .before .before .before .before .loop .inv) (c .before .before .before .hasten .ensures)) (c .one-record .ensures .0)
 
 enum-told : tie.Need-enum-told Inv-loop μ-loop
