@@ -6,17 +6,13 @@ use native.Mathlib.Numerals.{add-one}
 use mathlib.Core.Path.{_≡_, refl, sym, ap, _∙_}
 use mathlib.Core.Bool.{Bool, true, false, cond}
 use mathlib.Core.List.{List, [], _∷_, _++_, append-assoc, append-nil}
-use borrow.Author.Tests.{lt-ltb, le-ltb}
 use lib.Dec.{ltb}
 use lib.ListN.{length, drop}
 use lib.Seq.{drop-nil, drop-drop, drop-append-le}
-use Rattle.rounds.specs.Run.{Config}
 use Rattle.rounds.specs.Runs.{Report}
 use Rattle.words.specs.Layout.{Mem}
 use Rattle.words.specs.Spelled.{controlOf}
 use Rattle.words.specs.Calls.{blank}
-use Rattle.words.specs.Shows.{Shows, standing}
-use Rattle.words.proofs.Reading.{size-means, events-means, site-means}
 use Rattle.records.specs.declared.Place.{Place}
 use Rattle.records.specs.declared.Place.the-variants.{First}
 use Rattle.trace.specs.declared.Ending.{Ending}
@@ -35,67 +31,17 @@ use Rattle.lines.specs.declared.Stand.{Stand}
 use Rattle.lines.specs.declared.Stand.the-variants.{Reads, Closes}
 use Rattle.lines.specs.declared.Wants.{Wants}
 use Rattle.lines.specs.declared.Wants.the-variants as wants
-use Rattle.lines.specs.Text.{wLine, vLine, eLine}
-use Rattle.lines.specs.Sheet.{hLines, linesBelow, wLines, vLines, sheetOf, sheet}
+use Rattle.lines.specs.Sheet.{hLines, linesBelow, sheetOf, sheet}
 use Rattle.lines.specs.Pieces.{lineRoom, Part, rests, adds, toldText, waits, onTurn, follow, closingLine, closingCount, closing, piece}
 use Rattle.lines.specs.Claims.{first, Session, starts, takes, writes}
+use Rattle.lines.proofs.Closing.{closing-lines}
 use Rattle.lines.proofs.Turning.{less-one}
 
--- ---- lines
+-- ---- what a record tells is a line of what is reported
 told-lines : (t : Told) (rs : List Report) → hLines (reportsOf t ++ rs) ≡ toldText t ++ hLines rs
 unfolding hLines reportsOf toldText
 told-lines told.Nothing rs = refl
 told-lines (told.Heard p r h) rs = refl
-
-lines-append : (f : ℕ → List ℕ) (n j : ℕ) → linesBelow (n + j) f ≡ linesBelow n f ++ linesBelow j (λ i. f (n + i))
-unfolding linesBelow
-lines-append f n zero = let e : n + zero ≡ n = omega arith in rw e (sym (append-nil (linesBelow n f)))
-lines-append f n (suc j) =
-    let e : n + suc j ≡ suc (n + j) = omega arith in
-    rw (e, lines-append f n j) (append-assoc (linesBelow n f) (linesBelow j (λ i. f (n + i))) (f (n + j)))
-
-lines-same : (f g : ℕ → List ℕ) (n : ℕ) → ((k : ℕ) → k < n → f k ≡ g k) → linesBelow n f ≡ linesBelow n g
-unfolding linesBelow
-lines-same f g zero same = refl
-lines-same f g (suc n) same = rw (lines-same f g n (λ k l. same k (omega arith)), same n (omega arith))
-
-one-line : (f : ℕ → List ℕ) → linesBelow 1 f ≡ f 0
-unfolding linesBelow
-one-line f = refl
-
--- ---- the lines that close the sheet, of a memory that shows a configuration
-module _ (m : Mem) (c : Config) (shown : Shows m c) (number : ℕ) where
-  abbrev n : ℕ
-  n = c .control .size
-
-  at-w : (k : ℕ) → k < n → closingLine m number k ≡ wLine k (standing c k)
-  unfolding closingLine
-  at-w k l = rw (size-means m c shown, lt-ltb k n l, site-means m c shown k l)
-
-  at-v : (k : ℕ) → k < n → closingLine m number (n + k) ≡ vLine k (standing c k)
-  unfolding closingLine
-  at-v k l =
-      let back : n + k - n ≡ k = omega arith in
-      rw (size-means m c shown, le-ltb (n + k) n (omega arith), lt-ltb (n + k) (n + n) (omega arith), back, site-means m c shown k l)
-
-  at-e : closingLine m number (n + n + 0) ≡ eLine (c .control .events) number
-  unfolding closingLine controlOf
-  at-e =
-      let e : n + n + 0 ≡ n + n = omega arith in
-      rw (e, size-means m c shown, le-ltb (n + n) n (omega arith), le-ltb (n + n) (n + n) (omega arith), events-means m c shown)
-
-  closing-lines : linesBelow (closingCount m) (closingLine m number) ≡ wLines c ++ (vLines c ++ eLine (c .control .events) number)
-  unfolding closingCount wLines vLines
-  closing-lines =
-      rw (
-        size-means m c shown,
-        lines-append (closingLine m number) (n + n) 1,
-        lines-append (closingLine m number) n n,
-        lines-same (closingLine m number) (λ k. wLine k (standing c k)) n at-w,
-        lines-same (λ k. closingLine m number (n + k)) (λ k. vLine k (standing c k)) n at-v,
-      )
-      (append-assoc (linesBelow n (λ k. wLine k (standing c k))) (linesBelow n (λ k. vLine k (standing c k))) _
-      ∙ rw (one-line (λ i. closingLine m number (n + n + i)), at-e))
 
 -- ---- what holds of a session of the trace w with so many bytes not taken yet
 module _ (w unread : List ℕ) where
