@@ -1,10 +1,8 @@
 -- A trace that gives 0, and the list of its events, give the same run and number. Assumes nothing.
 use Prim.Native.Nat.{ℕ}
-use native.Mathlib.Omega.{arith}
 use mathlib.Core.Path.{_≡_, sym, ap, _∙_}
 use mathlib.Core.List.{List}
 use Rattle.sets.proofs.Determined.{determined}
-use Rattle.rounds.specs.declared.Event.{Event}
 use Rattle.rounds.specs.Verdicts.{numberOf}
 use Rattle.rounds.specs.Runs.{nightVerdict, night}
 use Rattle.words.specs.Layout.{Mem}
@@ -12,7 +10,7 @@ use Rattle.words.specs.Calls.{nightWords}
 use Rattle.words.specs.Shows.{Shows}
 use Rattle.records.specs.declared.Place.the-variants.{First}
 use Rattle.records.specs.declared.Record.the-variants.{Opening}
-use Rattle.records.specs.Records.{parse, extent}
+use Rattle.records.specs.Records.{parse}
 use Rattle.records.specs.Script.{valuesOf, script}
 use Rattle.trace.specs.Outcome.{endingNumber, outcome}
 use Rattle.trace.specs.Turns.{traceWords}
@@ -34,11 +32,10 @@ pub record SameRun (w : List ℕ) (n : ℕ) (values : List ℕ) (events : List l
 
 pub same-run : (w : List ℕ) (n : ℕ) (values : List ℕ) (events : List listed.Event) → endingNumber (outcome w .ending) ≡ 0
     → Lists w n values events → SameRun w n values events
-unfolding extent numberOf
+unfolding numberOf
 same-run w n values events z l =
     let k = read-whole w z in
-    let same : Opening (k .size) ≡ Opening n = sym (k .opening) ∙ l .opening in
-    let size : k .size ≡ n = omega (arith, ap extent same) in
+    let size : k .size ≡ n = cc in
     record {
       number = z ∙ sym (rw (l .values-are, l .events-are, ← size) (ap numberOf (k .accepted)));
       words = rw (l .values-are, l .events-are, ← size) (k .words);

@@ -1,7 +1,7 @@
 -- What the program needs of the pieces: each brings it nearer to the end of what is at hand, and leaves room to read on. Assumes nothing.
 use Prim.Native.Nat.{ℕ, _+_, _-_, _≤_, _<_}
 use native.Mathlib.Omega.{arith}
-use mathlib.Core.Path.{_≡_, refl, ap}
+use mathlib.Core.Path.{_≡_, refl}
 use mathlib.Core.Bool.{Bool}
 use mathlib.Core.List.{List}
 use lib.ListN.{length, take, drop, length-drop}
@@ -10,7 +10,6 @@ use Rattle.words.specs.Layout.{Mem}
 use Rattle.records.specs.Records.{longest}
 use Rattle.records.proofs.Rest.{rest}
 use Rattle.lines.specs.declared.Stand.{Stand}
-use Rattle.lines.specs.declared.Wants.{Wants}
 use Rattle.lines.specs.declared.Wants.the-variants.{Input, Room, Nothing}
 use Rattle.lines.specs.declared.Piece.{Piece}
 use Rattle.lines.specs.Pieces.{lineRoom, piece, said, Came}
@@ -26,19 +25,12 @@ printed {w} {out} last s m wide h =
     (h .within, h .short, rw (h .says, h .words) (goes-nearer last (length out) s m w (piece last (length out) s m w) wide refl))
 
 -- ---- where the writing fails nothing more is wanted
-unfoldable rank : Wants → ℕ
-rank Input = 0
-rank Room = 1
-rank Nothing = 2
-
 pub given-up : (w : List ℕ) (used a b : ℕ) → used ≤ length w
     → (used ≤ length w) × (Nothing ≡ Input → length w < used + longest) × (Nothing ≡ Room → a < b)
-unfolding rank
-given-up w used a b l = (l, λ e. absurd (let q = ap rank e in omega arith), λ e. absurd (let q = ap rank e in omega arith))
+given-up w used a b l = (l, λ e. (let q : _≡_ {A = ℕ} 0 1 = cc in omega arith), λ e. (let q : _≡_ {A = ℕ} 0 1 = cc in omega arith))
 
 pub not-input : (w : List ℕ) (used : ℕ) → used ≤ length w → (used ≤ length w) × (Nothing ≡ Input → length w < used + longest)
-unfolding rank
-not-input w used l = (l, λ e. absurd (let q = ap rank e in omega arith))
+not-input w used l = (l, λ e. (let q : _≡_ {A = ℕ} 0 1 = cc in omega arith))
 
 -- ---- in a window, from a place on
 module _ (w : List ℕ) (at u : ℕ) (l : at ≤ length w) where

