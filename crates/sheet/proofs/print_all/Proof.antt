@@ -1,6 +1,6 @@
 -- `print_all` writes piece after piece; each brings it nearer to the end of the window.
 -- Assumes nothing.
-use Prim.Native.Nat.{_≤_}
+use Prim.Native.Nat.{_+_, _≤_}
 use native.Mathlib.Omega.{arith}
 use mathlib.Core.Path.{_≡_, refl, _∙_}
 use lib.ListN.{length, drop}
@@ -31,8 +31,16 @@ part-print-end c = search needs
 print-requires : tie.Need-print-requires Inv-loop μ-loop
 print-requires c κs = search needs
 
+-- behind a piece the place is within the window still, and the buffer is as long as it was
+so : (c : tie.After-print Inv-loop μ-loop)
+    → let a = c .before .before .before .before .before .before .before .args in
+    (c .before .before .before .before .loop .used + c .print .result .used ≤ length (a .window .now)) × (length (c .print .last .1 .1 .1 .1 .0) ≡ length (a .out .now))
+so c =
+    let l = c .before .before .before .before .loop in
+    (within (c .before .before .before .before .before .before .before .args .window .now) (l .used) _ (l .inv .0) (c .print .ensures .0), c .print .kept .1 .1 .1 .1 .0 ∙ l .inv .1)
+
 add-used : tie.Need-add-used Inv-loop μ-loop
-add-used c = let far = within (c .before .before .before .before .before .before .before .before .before .before .args .window .now) (c .before .before .before .before .before .before .before .loop .used) _ (c .before .before .before .before .before .before .before .loop .inv .0) (c .before .before .before .print .ensures .0) in omega arith
+add-used c = let far = so (c .before .before .before) in omega (arith, far .0)
 
 enum-told : tie.Need-enum-told Inv-loop μ-loop
 enum-told c = search needs
@@ -44,28 +52,28 @@ loop-less c =
     nearer (c .before .before .before .before .before .before .before .before .before .before .before .before .args .window .now) (l .used) (p .result .used) (l .inv .0) (l .here) (p .result .stand) (l .run) (p .last .0) (p .ensures .2 (c .enum-told .given .1))
 
 loop-again : tie.Need-loop-again Inv-loop μ-loop
-loop-again c = (within (c .before .before .before .before .before .before .before .before .before .before .before .before .args .window .now) (c .before .before .before .before .before .before .before .before .before .loop .used) _ (c .before .before .before .before .before .before .before .before .before .loop .inv .0) (c .before .before .before .before .before .print .ensures .0), c .before .before .before .before .before .print .kept .1 .1 .1 .1 .0 ∙ c .before .before .before .before .before .before .before .before .before .loop .inv .1)
+loop-again c = so (c .before .before .before .before .before)
 
 enum-told-2 : tie.Need-enum-told-2 Inv-loop μ-loop
 enum-told-2 c = search needs
 
 same-length : tie.Need-same-length Inv-loop μ-loop
-same-length c = c .before .before .before .before .before .print .kept .1 .1 .1 .1 .0 ∙ c .before .before .before .before .before .before .before .before .before .loop .inv .1
+same-length c = so (c .before .before .before .before .before) .1
 
 returns : tie.Need-returns Inv-loop μ-loop
-returns c = (
-  within (c .before .before .before .before .before .before .before .before .before .before .before .before .args .window .now) (c .before .before .before .before .before .before .before .before .before .loop .used) _ (c .before .before .before .before .before .before .before .before .before .loop .inv .0) (c .before .before .before .before .before .print .ensures .0),
-  λ i. short (c .before .before .before .before .before .before .before .before .before .before .before .before .args .window .now) (c .before .before .before .before .before .before .before .before .before .loop .used) _ (c .before .before .before .before .before .before .before .before .before .loop .inv .0) (c .before .before .before .before .before .print .ensures .1 (c .enum-told2 .given .1)),
-)
+returns c =
+    let p = c .before .before .before .before .before in
+    let l = p .before .before .before .before .loop in
+    (so p .0, λ i. short (p .before .before .before .before .before .before .before .args .window .now) (l .used) _ (l .inv .0) (p .print .ensures .1 (c .enum-told2 .given .1)))
 
 enum-told-3 : tie.Need-enum-told-3 Inv-loop μ-loop
 enum-told-3 c = search needs
 
 same-length-2 : tie.Need-same-length-2 Inv-loop μ-loop
-same-length-2 c = c .before .before .before .before .before .print .kept .1 .1 .1 .1 .0 ∙ c .before .before .before .before .before .before .before .before .before .loop .inv .1
+same-length-2 c = so (c .before .before .before .before .before) .1
 
 returns-2 : tie.Need-returns-2 Inv-loop μ-loop
-returns-2 c = not-input (c .before .before .before .before .before .before .before .before .before .before .before .before .args .window .now) _ (within (c .before .before .before .before .before .before .before .before .before .before .before .before .args .window .now) (c .before .before .before .before .before .before .before .before .before .loop .used) _ (c .before .before .before .before .before .before .before .before .before .loop .inv .0) (c .before .before .before .before .before .print .ensures .0))
+returns-2 c = let p = c .before .before .before .before .before in not-input (p .before .before .before .before .before .before .before .args .window .now) _ (so p .0)
 
 pub print-all-spec : {M : Type 1} → statement M
 print-all-spec =
