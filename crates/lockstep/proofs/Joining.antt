@@ -1,6 +1,6 @@
 -- A memory that shows the run of the events so far, and then of the next ones, shows the run of both.
 -- Assumes nothing.
-use Prim.Native.Nat.{ℕ, suc, _+_}
+use Prim.Native.Nat.{ℕ, _+_}
 use native.Mathlib.Numerals.{add-one}
 use mathlib.Core.Path.{_≡_, refl, sym, subst}
 use mathlib.Core.List.{List, [], _∷_, _++_}
@@ -16,48 +16,54 @@ use Rattle.words.specs.Layout.{Mem}
 use Rattle.words.specs.Shows.{Shows}
 use Rattle.lockstep.specs.LockStep.{receivesBelow, oneTurn, allSend, allTurn, oneRound, manyRounds}
 
--- ---- events, then events, or one event
-pub both : (m : Mem) (c : Config) (es fs : List Event) → Shows m (after (after c es) fs) → Shows m (after c (es ++ fs))
-both m c es fs s = subst (Shows m) (sym (after-append c es fs)) s
+-- where m₀ shows a configuration, m shows the one after the events
+abbrev pub Runs : Mem → Mem → List Event → Type 0
+Runs m₀ m es = (c : Config) → Shows m₀ c → Shows m (after c es)
 
-one-more : (m : Mem) (c : Config) (es : List Event) (e : Event) → Shows m (apply (after c es) e) → Shows m (after c (es ++ (e ∷ [])))
+-- ---- events, and then more of them
+joined : {m m′ : Mem} (c : Config) (es fs : List Event) → Shows m (after c es) → Runs m m′ fs → Shows m′ (after c (es ++ fs))
+joined {m} {m′} c es fs s g = subst (Shows m′) (sym (after-append c es fs)) (g (after c es) s)
+
+both : {m₀ m m′ : Mem} (es fs : List Event) → Runs m₀ m es → Runs m m′ fs → Runs m₀ m′ (es ++ fs)
+both es fs f g c s = joined c es fs (f c s) g
+
+-- or one event more
+one : {m m′ : Mem} (e : Event) → ((c : Config) → Shows m c → Shows m′ (apply c e)) → Runs m m′ (e ∷ [])
 unfolding after
-one-more m c es e s = both m c es (e ∷ []) s
-
--- ---- a family of events at k + 1
-next : (m : Mem) (c : Config) (k : ℕ) (es : ℕ → List Event) → Shows m (after c (es (suc k))) → Shows m (after c (es (k + 1)))
-next m c k es s = subst (λ (j : ℕ). Shows m (after c (es j))) (sym (add-one k)) s
+one e g = g
 
 -- ---- each loop of the program, at its next turn
-pub sent-next : (m : Mem) (c : Config) (k p : ℕ) → Shows m (apply (after c (sends k p)) (Send p k)) → Shows m (after c (sends (k + 1) p))
+pub sent-next : {m₀ m m′ : Mem} (k p : ℕ) → Runs m₀ m (sends k p) → ((c : Config) → Shows m c → Shows m′ (apply c (Send p k)))
+    → Runs m₀ m′ (sends (k + 1) p)
 unfolding sends
-sent-next m c k p s = next m c k (λ j. sends j p) (one-more m c (sends k p) (Send p k) s)
+sent-next k p f g = rw (add-one k) (both (sends k p) (Send p k ∷ []) f (one (Send p k) g))
 
-pub received-next : (m : Mem) (c : Config) (k p : ℕ) → Shows m (apply (after c (receivesBelow k p)) (Receive p k))
-    → Shows m (after c (receivesBelow (k + 1) p))
+pub received-next : {m₀ m m′ : Mem} (k p : ℕ) → Runs m₀ m (receivesBelow k p) → ((c : Config) → Shows m c → Shows m′ (apply c (Receive p k)))
+    → Runs m₀ m′ (receivesBelow (k + 1) p)
 unfolding receivesBelow
-received-next m c k p s = next m c k (λ j. receivesBelow j p) (one-more m c (receivesBelow k p) (Receive p k) s)
+received-next k p f g = rw (add-one k) (both (receivesBelow k p) (Receive p k ∷ []) f (one (Receive p k) g))
 
-pub all-sent-next : (m : Mem) (c : Config) (k : ℕ) → Shows m (after (after c (allSend k)) (sends 16 k)) → Shows m (after c (allSend (k + 1)))
+pub all-sent-next : {m₀ m m′ : Mem} (k : ℕ) → Runs m₀ m (allSend k) → Runs m m′ (sends 16 k) → Runs m₀ m′ (allSend (k + 1))
 unfolding allSend
-all-sent-next m c k s = next m c k allSend (both m c (allSend k) (sends 16 k) s)
+all-sent-next k f g = rw (add-one k) (both (allSend k) (sends 16 k) f g)
 
-pub all-turned-next : (m : Mem) (c : Config) (k : ℕ) → Shows m (after (after c (allTurn k)) (oneTurn k)) → Shows m (after c (allTurn (k + 1)))
+pub all-turned-next : {m₀ m m′ : Mem} (k : ℕ) → Runs m₀ m (allTurn k) → Runs m m′ (oneTurn k) → Runs m₀ m′ (allTurn (k + 1))
 unfolding allTurn
-all-turned-next m c k s = next m c k allTurn (both m c (allTurn k) (oneTurn k) s)
+all-turned-next k f g = rw (add-one k) (both (allTurn k) (oneTurn k) f g)
 
-pub rounds-next : (m : Mem) (c : Config) (k : ℕ) → Shows m (after (after c (manyRounds k)) oneRound) → Shows m (after c (manyRounds (k + 1)))
+pub rounds-next : {m m′ : Mem} (c : Config) (k : ℕ) → Shows m (after c (manyRounds k)) → Runs m m′ oneRound → Shows m′ (after c (manyRounds (k + 1)))
 unfolding manyRounds
-rounds-next m c k s = next m c k manyRounds (both m c (manyRounds k) oneRound s)
+rounds-next c k s g = rw (add-one k) (joined c (manyRounds k) oneRound s g)
 
 -- ---- a turn, and a round
-pub turned : (m : Mem) (c : Config) (p : ℕ) → Shows m (apply (after c (receivesBelow 16 p)) (Step p)) → Shows m (after c (oneTurn p))
+pub turned : {m₀ m m′ : Mem} (p : ℕ) → Runs m₀ m (receivesBelow 16 p) → ((c : Config) → Shows m c → Shows m′ (apply c (Step p)))
+    → Runs m₀ m′ (oneTurn p)
 unfolding oneTurn
-turned m c p s = one-more m c (receivesBelow 16 p) (Step p) s
+turned p f g = both (receivesBelow 16 p) (Step p ∷ []) f (one (Step p) g)
 
-pub round-done : (m : Mem) (c : Config) → Shows m (after (after c (allSend 16)) (allTurn 16)) → Shows m (after c oneRound)
+pub round-done : {m₀ m m′ : Mem} → Runs m₀ m (allSend 16) → Runs m m′ (allTurn 16) → Runs m₀ m′ oneRound
 unfolding oneRound
-round-done m c s = both m c (allSend 16) (allTurn 16) s
+round-done f g = both (allSend 16) (allTurn 16) f g
 
 -- ---- sixteen values open a run of sixteen
 pub sixteen-open : openVerdict 16 16 ≡ Accepted

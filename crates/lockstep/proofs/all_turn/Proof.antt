@@ -1,19 +1,17 @@
 -- `all_turn` goes over the sixteen processes; at each the memory shows the run of the events so far.
 -- Assumes nothing.
-use Prim.Native.Nat.{ℕ, _≤_, _-_}
+use Prim.Native.Nat.{_≤_, _-_}
 use native.Mathlib.Omega.{arith}
-use mathlib.Core.Path.{_≡_, subst}
-use Rattle.rounds.specs.Run.{Config}
+use mathlib.Core.Path.{_≡_}
 use Rattle.rounds.specs.Runs.{after}
-use Rattle.words.specs.Shows.{Shows}
 use Rattle.lockstep.specs.LockStep.{allTurn}
-use Rattle.lockstep.proofs.Joining.{all-turned-next}
+use Rattle.lockstep.proofs.Joining.{Runs, all-turned-next}
 use borrow.Author.Needs.{needs}
 use Rattle.lockstep.proofs.all_turn.Statement.{statement}
 use Rattle.lockstep.proofs.all_turn.Tie as tie
 
 abbrev Inv-loop : tie.InvT-loop
-Inv-loop run₀ p₀ run p = (p ≤ 16) × ((d : Config) → Shows run₀ d → Shows run (after d (allTurn p)))
+Inv-loop run₀ p₀ run p = (p ≤ 16) × Runs run₀ run (allTurn p)
 
 abbrev μ-loop : tie.MeasureT-loop
 μ-loop run₀ p₀ run p = 16 - p
@@ -34,13 +32,13 @@ loop-less c = search needs
 loop-again : tie.Need-loop-again Inv-loop μ-loop
 loop-again c =
     let l = c .before .before .before .loop in
-    (search needs, λ d s. all-turned-next _ d (l .p) (c .turn .ensures (after d (allTurn (l .p))) (l .inv .1 d s)))
+    (search needs, all-turned-next (l .p) (l .inv .1) (c .turn .ensures))
 
 returns : tie.Need-returns Inv-loop μ-loop
 returns c =
     let l = c .before .loop in
     let e : l .p ≡ 16 = omega arith in
-    λ d s. subst (λ (k : ℕ). Shows (l .run) (after d (allTurn k))) e (l .inv .1 d s)
+    rw e at (l .inv .1)
 
 pub all-turn-spec : {M : Type 1} → statement M
 all-turn-spec =

@@ -2,7 +2,7 @@
 -- Assumes nothing.
 use Prim.Native.Nat.{ℕ, _≤_, _-_}
 use native.Mathlib.Omega.{arith}
-use mathlib.Core.Path.{_≡_, _∙_, subst, ap}
+use mathlib.Core.Path.{_≡_, _∙_, ap}
 use lib.ListN.{length}
 use Rattle.rounds.specs.Run.{opening}
 use Rattle.rounds.specs.Verdicts.{openVerdict}
@@ -41,16 +41,14 @@ loop-less c = search needs
 
 loop-again : tie.Need-loop-again Inv-loop μ-loop
 loop-again c =
-    let l = c .before .before .before .loop in (
-      search needs,
-      λ v e g. rounds-next _ (opening 16 v) (l .counter) (c .round .ensures (after (opening 16 v) (manyRounds (l .counter))) (l .inv .1 v e g)),
-    )
+    let l = c .before .before .before .loop in
+    (search needs, λ v e g. rounds-next (opening 16 v) (l .counter) (l .inv .1 v e g) (c .round .ensures))
 
 returns : tie.Need-returns Inv-loop μ-loop
 returns c =
     let l = c .before .loop in
     let f : l .counter ≡ 1890 = omega arith in
-    λ v e g. subst (λ (k : ℕ). Shows (l .run) (after (opening 16 v) (manyRounds k))) f (l .inv .1 v e g)
+    rw f at (l .inv .1)
 
 pub night-spec : {M : Type 1} → statement M
 night-spec =

@@ -1,19 +1,17 @@
 -- `receives` goes over the sixteen processes; at each the memory shows the run of the events so far.
 -- Assumes nothing.
-use Prim.Native.Nat.{ℕ, _≤_, _-_}
+use Prim.Native.Nat.{_≤_, _-_}
 use native.Mathlib.Omega.{arith}
-use mathlib.Core.Path.{_≡_, subst}
-use Rattle.rounds.specs.Run.{Config}
+use mathlib.Core.Path.{_≡_}
 use Rattle.rounds.specs.Runs.{after}
-use Rattle.words.specs.Shows.{Shows}
 use Rattle.lockstep.specs.LockStep.{receivesBelow}
-use Rattle.lockstep.proofs.Joining.{received-next}
+use Rattle.lockstep.proofs.Joining.{Runs, received-next}
 use borrow.Author.Needs.{needs}
 use Rattle.lockstep.proofs.receives.Statement.{statement}
 use Rattle.lockstep.proofs.receives.Tie as tie
 
 abbrev Inv-loop : tie.InvT-loop
-Inv-loop run₀ p q₀ run q = (q ≤ 16) × ((d : Config) → Shows run₀ d → Shows run (after d (receivesBelow q p)))
+Inv-loop run₀ p q₀ run q = (q ≤ 16) × Runs run₀ run (receivesBelow q p)
 
 abbrev μ-loop : tie.MeasureT-loop
 μ-loop run₀ p q₀ run q = 16 - q
@@ -34,13 +32,13 @@ loop-less c = search needs
 loop-again : tie.Need-loop-again Inv-loop μ-loop
 loop-again c =
     let l = c .before .before .before .loop in
-    (search needs, λ d s. received-next _ d (l .q) (c .before .before .before .before .args .p) (c .receive .ensures .1 (after d (receivesBelow (l .q) (c .before .before .before .before .args .p))) (l .inv .1 d s) .shows))
+    (search needs, received-next (l .q) (c .before .before .before .before .args .p) (l .inv .1) (λ d s. c .receive .ensures .1 d s .shows))
 
 returns : tie.Need-returns Inv-loop μ-loop
 returns c =
     let l = c .before .loop in
     let e : l .q ≡ 16 = omega arith in
-    λ d s. subst (λ (k : ℕ). Shows (l .run) (after d (receivesBelow k (c .before .before .args .p)))) e (l .inv .1 d s)
+    rw e at (l .inv .1)
 
 pub receives-spec : {M : Type 1} → statement M
 receives-spec =

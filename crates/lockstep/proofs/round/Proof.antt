@@ -1,7 +1,5 @@
 -- `round` is the sends of all, and then the turns of all.
 -- Assumes nothing.
-use Rattle.rounds.specs.Runs.{after}
-use Rattle.lockstep.specs.LockStep.{allSend}
 use Rattle.lockstep.proofs.Joining.{round-done}
 use borrow.Author.Needs.{needs}
 use Rattle.lockstep.proofs.round.Statement.{statement}
@@ -14,7 +12,7 @@ all-turn-requires : tie.Need-all-turn-requires
 all-turn-requires c κs = search needs
 
 returns : tie.Need-returns
-returns c = λ d s. round-done _ d (c .all-turn .ensures (after d (allSend 16)) (c .before .before .all-send .ensures d s))
+returns c = round-done (c .before .before .all-send .ensures) (c .all-turn .ensures)
 
 pub round-spec : {M : Type 1} → statement M
 round-spec = tie.close (tie.spec all-send-requires all-turn-requires returns)

@@ -1,7 +1,5 @@
 -- `turn` is the receives, and then the step.
 -- Assumes nothing.
-use Rattle.rounds.specs.Runs.{after}
-use Rattle.lockstep.specs.LockStep.{receivesBelow}
 use Rattle.lockstep.proofs.Joining.{turned}
 use borrow.Author.Needs.{needs}
 use Rattle.lockstep.proofs.turn.Statement.{statement}
@@ -14,9 +12,7 @@ step-requires : tie.Need-step-requires
 step-requires c κs = search needs
 
 returns : tie.Need-returns
-returns c =
-    let p = c .before .before .before .before .args .p in
-    λ d s. turned _ d p (c .step .ensures .1 (after d (receivesBelow 16 p)) (c .before .before .receives .ensures d s) .shows)
+returns c = turned (c .before .before .before .before .args .p) (c .before .before .receives .ensures) (λ d s. c .step .ensures .1 d s .shows)
 
 pub turn-spec : {M : Type 1} → statement M
 turn-spec = tie.close (tie.spec receives-requires step-requires returns)
