@@ -38,7 +38,7 @@ abbrev pub none : Event
 none = record { kind = Send; first = 0; second = 0 }
 
 -- ---- the run as it is lent: at a place, under a name, with its words
-abbrev pub arr : Ty
+abbrev arr : Ty
 arr = tyArray (tyInt w32) RUN
 
 abbrev pub ref : ℕ → ℕ → GName → Mem → RefT Mem

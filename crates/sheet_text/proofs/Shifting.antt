@@ -49,7 +49,7 @@ front zero l = refl
 front (suc to) [] = refl
 front (suc to) (x ∷ l) = ap (λ (r : List ℕ). x ∷ r) (front to l)
 
-pub part : (from to : ℕ) (l : List ℕ) → take (length (take to l) - from) (drop from l) ≡ slice from to l
+part : (from to : ℕ) (l : List ℕ) → take (length (take to l) - from) (drop from l) ≡ slice from to l
 part zero to l = let e : length (take to l) - zero ≡ length (take to l) = omega arith in rw e (front to l)
 part (suc from) zero l = let e : 0 - suc from ≡ 0 = omega arith in rw e
 part (suc from) (suc to) [] = take-nil (0 - suc from)

@@ -41,7 +41,7 @@ six-words l at s =
     ∙ apart (word (s .idle)) _ (at + 16) (at + 20) _ (omega (arith, word-length (s .idle))))
 
 -- ---- the rows
-pub row-length : (s : Standing) → length (rowOf s) ≡ rowBytes
+row-length : (s : Standing) → length (rowOf s) ≡ rowBytes
 unfolding rowOf word
 row-length s = refl
 

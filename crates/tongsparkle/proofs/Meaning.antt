@@ -30,7 +30,7 @@ module _ (m : Mem) (c : Config) (k : Shows m c) where
   rows-shown zero h = refl
   rows-shown (suc n) h = rw (rows-shown n (omega arith), site-means m c k n (omega arith))
 
-  pub report-shown : (report : List ℕ) → room ≤ length report
+  report-shown : (report : List ℕ) → room ≤ length report
       → sets report 0 (rowsBelow (people m) (standingOf m)) ≡ over (reportOf (c .control)) report
   unfolding reportOf
   report-shown report h =

@@ -211,7 +211,7 @@ head-is w tag r a b c e = go (eqb (getD w 0 0) tag) refl (eqb (getD w 1 0) 0) re
 
 -- what comes of each test
 module _ (m : Mem) (w : List ℕ) where
-  abbrev pub Found : Bool → Mem → Type 0
+  abbrev Found : Bool → Mem → Type 0
   Found b n = (b ≡ goes (controlOf m) (swift w)) × (n ≡ left m (swift w))
 
   pub too-few : length w < swiftExtent → Found false m

@@ -28,7 +28,7 @@ unfolding words
 words-length zero l = refl
 words-length (suc k) l = length-append (words k l) (word l (4 * k) ∷ []) ∙ rw (words-length k l) (add-one k)
 
-pub values-length : (n : ℕ) (w : List ℕ) → length (valuesOf n w) ≡ n
+values-length : (n : ℕ) (w : List ℕ) → length (valuesOf n w) ≡ n
 unfolding valuesOf
 values-length n w = words-length n (take (4 * n) (drop 4 w))
 
