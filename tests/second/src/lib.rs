@@ -5,8 +5,8 @@
 //! documents, with sets and maps where they speak of sets and maps, so that a quicker replay can be
 //! held against it.
 //!
-//! `voting` is the rule of document 003, `machine` the round machine of document 000, `trace` the reader
-//! above the machine, `sheet` what people and the monitoring service get.
+//! `voting` is the rule of document 003, `run` what a run of document 000's round machine holds, `machine` what
+//! its events do, `trace` the reader above the machine, `sheet` what people and the monitoring service get.
 //!
 //! Where document 01 leaves a choice, this is the one taken:
 //! - The opening is no event: it is not counted and no stage is judged at it, as in the example of the sheet.
@@ -16,6 +16,7 @@
 //! - A trace with a refusal is an answer like any other: the program's exit status is 0.
 
 pub mod machine;
+pub mod run;
 pub mod sheet;
 pub mod trace;
 pub mod voting;

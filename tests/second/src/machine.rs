@@ -3,9 +3,9 @@
 //!
 //! Round r here is round r - 1 in 000.
 
-use crate::voting::{self, Content, State};
-use std::collections::{BTreeMap, BTreeSet};
-use std::ops::Range;
+use crate::run::{Message, Run, Site};
+use crate::voting::{self, Content};
+use std::collections::BTreeSet;
 
 /// 01: "N is 0 or above 16".
 pub const MOST_PROCESSES: usize = 16;
@@ -36,17 +36,6 @@ pub enum Event {
     Broadcast { process: u8 },
 }
 
-/// A message with all it carries. The order of the fields keeps the messages to one receiver for one round
-/// side by side.
-#[derive(Clone, Debug, PartialEq, Eq, PartialOrd, Ord)]
-pub struct Message {
-    pub receiver: u8,
-    pub round: u32,
-    pub sender: u8,
-    pub content: Content,
-    pub reach: BTreeSet<u8>,
-}
-
 /// The four stages of 01.
 #[derive(Clone, Copy, Debug, PartialEq, Eq)]
 pub enum Stage {
@@ -56,57 +45,12 @@ pub enum Stage {
     I,
 }
 
-/// At how many accepted events each stage held.
-#[derive(Clone, Copy, Debug, Default, PartialEq, Eq)]
-pub struct Counts {
-    pub s: u32,
-    pub c: u32,
-    pub p: u32,
-    pub i: u32,
-}
-
-/// What a run holds for one process.
-#[derive(Clone, Debug, PartialEq, Eq)]
-pub struct Site {
-    pub round: u32,
-    pub state: State,
-    /// The processes it has sent to this round.
-    pub sent: BTreeSet<u8>,
-    /// The messages heard this round, by sender.
-    pub heard: BTreeMap<u8, Message>,
-    pub reach: BTreeSet<u8>,
-    pub counts: Counts,
-}
-
-/// A run: its processes, the messages in transit, and the number of accepted events.
-#[derive(Clone, Debug, PartialEq, Eq)]
-pub struct Run {
-    pub sites: Vec<Site>,
-    pub transit: BTreeSet<Message>,
-    pub accepted: u32,
-}
-
 /// What an accepted step reports: the heard-of set of the round that it finishes.
 #[derive(Clone, Debug, PartialEq, Eq)]
 pub struct Finished {
     pub process: u8,
     pub round: u32,
     pub heard: BTreeSet<u8>,
-}
-
-impl Site {
-    /// 01: "At opening: round 1, vote and decision absent, both sets empty, reach holding the process itself,
-    /// counts zero".
-    fn open(process: u8, value: u32) -> Site {
-        Site {
-            round: 1,
-            state: State { value, vote: None, decision: None },
-            sent: BTreeSet::new(),
-            heard: BTreeMap::new(),
-            reach: BTreeSet::from([process]),
-            counts: Counts::default(),
-        }
-    }
 }
 
 /// What a run promises to those above it.
@@ -170,6 +114,14 @@ impl Run {
 
 /// The refusals of each kind of event, once its process numbers and the number of events are known to be right.
 impl Run {
+    /// How many events it is. 01: "A broadcast tests 8 with all N events at once."
+    fn weight(&self, event: Event) -> u32 {
+        match event {
+            Event::Broadcast { .. } => self.sites.len() as u32,
+            _ => 1,
+        }
+    }
+
     fn send_number(&self, from: u8, to: u8) -> u8 {
         if self.site(from).sent.contains(&to) {
             SENT_ALREADY
@@ -269,64 +221,6 @@ impl Run {
             self.send(process, to);
         }
     }
-
-    fn discard_older(&mut self, process: u8) {
-        let older = least_message(process, 0, 0)..least_message(process, self.site(process).round, 0);
-        let late: Vec<Message> = self.transit.range(older).cloned().collect();
-        for message in late {
-            self.transit.remove(&message);
-        }
-    }
-}
-
-/// What the events and their tests ask of a run.
-impl Run {
-    fn processes(&self) -> Range<u8> {
-        // N is at most 16.
-        0..self.sites.len() as u8
-    }
-
-    fn site(&self, process: u8) -> &Site {
-        &self.sites[usize::from(process)]
-    }
-
-    fn site_mut(&mut self, process: u8) -> &mut Site {
-        &mut self.sites[usize::from(process)]
-    }
-
-    /// 01: "The lead of one process over another is a signed number, its round minus the other's".
-    fn lead(&self, process: u8, other: u8) -> i64 {
-        i64::from(self.site(process).round) - i64::from(self.site(other).round)
-    }
-
-    /// The message sending function S_p, the same for every receiver.
-    fn content(&self, process: u8) -> Content {
-        let state = self.site(process).state;
-        Content { value: state.value, vote: state.vote }
-    }
-
-    /// How many events it is. 01: "A broadcast tests 8 with all N events at once."
-    fn weight(&self, event: Event) -> u32 {
-        match event {
-            Event::Broadcast { .. } => self.sites.len() as u32,
-            _ => 1,
-        }
-    }
-
-    /// The message in transit from the sender for the receiver's current round. There is at most one, as a
-    /// process sends to another at most once in a round.
-    fn message(&self, receiver: u8, sender: u8) -> Option<&Message> {
-        let round = self.site(receiver).round;
-        let wanted = least_message(receiver, round, sender)..least_message(receiver, round, sender + 1);
-        self.transit.range(wanted).next()
-    }
-
-    /// 01: "a message for its current round is in transit to it".
-    fn is_awaited(&self, receiver: u8) -> bool {
-        let round = self.site(receiver).round;
-        let current = least_message(receiver, round, 0)..least_message(receiver, round + 1, 0);
-        self.transit.range(current).next().is_some()
-    }
 }
 
 /// The process numbers that an event names.
@@ -336,9 +230,4 @@ fn named(event: Event) -> Vec<u8> {
         Event::Receive { receiver, sender } => vec![receiver, sender],
         Event::Step { process } | Event::Broadcast { process } => vec![process],
     }
-}
-
-/// The least of all messages with these three first fields, as a bound for looking them up.
-fn least_message(receiver: u8, round: u32, sender: u8) -> Message {
-    Message { receiver, round, sender, content: Content { value: 0, vote: None }, reach: BTreeSet::new() }
 }

@@ -1,6 +1,7 @@
 //! What people get: the sheet as text, and the report that the monitoring service has written in its room.
 
-use crate::machine::{Finished, Run, Site};
+use crate::machine::Finished;
+use crate::run::{Run, Site};
 use crate::trace::{self, Night};
 use crate::voting::State;
 use std::collections::BTreeSet;

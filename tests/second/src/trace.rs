@@ -2,7 +2,8 @@
 //!
 //! The reader stands above the round machine and uses only `Run::open` and `Run::apply` of it.
 
-use crate::machine::{Event, Finished, Run, ACCEPTED};
+use crate::machine::{Event, Finished, ACCEPTED};
+use crate::run::Run;
 
 /// The numbers given back by the reader, as 01 lists them.
 pub const CUT_SHORT: u8 = 9;

@@ -1,7 +1,7 @@
 //! The numbers of document 01's table that events have, and the order of their tests.
 
 use crate::helpers::{accept, broadcast, go_on, number, open, receive, refuse, round, send, set, state, states, step};
-use second::machine::Counts;
+use second::run::Counts;
 
 #[test]
 fn number_0_and_what_an_opening_holds() {

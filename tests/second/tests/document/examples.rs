@@ -4,7 +4,8 @@ use crate::helpers::{
     accept, after_example_4, broadcast, bytes, decisions, go_on, open, receive, refuse, round, send, set, state, states, step, values,
     SHEET, SHEET_TRACE,
 };
-use second::machine::{Counts, Finished, Run, Stage};
+use second::machine::{Finished, Stage};
+use second::run::{Counts, Run};
 use second::sheet::text;
 use second::trace::replay;
 use second::voting::next;

@@ -1,6 +1,7 @@
 //! Events, runs and records in short.
 
-use second::machine::{Event, Run};
+use second::machine::Event;
+use second::run::Run;
 use second::trace::replay;
 use second::voting::State;
 use std::collections::BTreeSet;

@@ -1,7 +1,8 @@
 //! A case for each slip that document 01 names.
 
 use crate::helpers::{accept, after_example_4, broadcast, open, receive, round, send, set, state, states, step};
-use second::machine::{Counts, Finished, Stage};
+use second::machine::{Finished, Stage};
+use second::run::Counts;
 
 #[test]
 fn slip_a_fast_senders_new_value() {

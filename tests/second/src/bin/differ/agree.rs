@@ -6,7 +6,7 @@ use crate::nights::{self, Case};
 use crate::proved::Proved;
 use crate::share::{share, Failure};
 use crate::shrink::shrink;
-use second::machine::Run;
+use second::run::Run;
 use std::path::Path;
 use std::time::{Duration, Instant};
 

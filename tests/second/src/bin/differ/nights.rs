@@ -4,7 +4,8 @@
 use crate::lockstep;
 use crate::random::Random;
 use crate::records::{event, opening, record, Night, END};
-use second::machine::{Event, Run};
+use second::machine::Event;
+use second::run::Run;
 
 /// A trace, and the room that the report has.
 #[derive(Clone)]
