@@ -1,76 +1,18 @@
 /* Hostile use of the call, as a test: empty traces and reports, pointers at every alignment, reports and traces of 10 MB, every prefix of document
    01's trace and every value of each of its bytes, and several threads at once.
 
-   It is for the address sanitizer: every trace and every report ends where its heap block ends, so that the sanitizer sees a byte read or written
-   behind it. All bytes of a block have a pattern before they are used, and whatever is not a row of the report must have it afterwards. Says
-   'N passed, M failed', and exits with 0 only where nothing failed.
+   It is for the address sanitizer: every trace and every report is a heap block of blocks.h. Whatever is not a row of the report must have the
+   block's pattern afterwards. Says 'N passed, M failed', and exits with 0 only where nothing failed.
 
    With the word 'trace' or 'report' it makes one wrong call, whose trace or report is a byte shorter than the length that it hands over. The
    sanitizer must end it: so it is seen that the sanitizer looks at what the library reads and writes, and not only at this file. */
 
 #include <pthread.h>
-#include <string.h>
 
+#include "blocks.h"
 #include "records.h"
 
 enum { LONG = 10 * 1000 * 1000, FIELDS = TONGSPARKLE_ROW / 4, THREADS = 4, CALLS = 200 };
-
-/* ---- a heap block: size bytes, with others before them and none behind */
-struct block {
-    uint8_t *start;
-    size_t before, size;
-};
-
-static uint8_t pattern(size_t i)
-{
-    return (uint8_t)(i * 151 + 7);
-}
-
-static void fill(struct block b)
-{
-    for (size_t i = 0; i < b.before + b.size; i++)
-        b.start[i] = pattern(i);
-}
-
-static struct block block(size_t before, size_t size)
-{
-    struct block b = {malloc(before + size), before, size};
-    if (b.start == NULL || (uintptr_t)b.start % 16 != 0) {
-        fputs("no heap block, or none whose alignment is 16\n", stderr);
-        exit(2);
-    }
-    fill(b);
-    return b;
-}
-
-static uint8_t *at(struct block b)
-{
-    return b.start + b.before;
-}
-
-static struct block holding(size_t before, const uint8_t *bytes, size_t size)
-{
-    struct block b = block(before, size);
-    memcpy(at(b), bytes, size);
-    return b;
-}
-
-/* An empty block has a byte before it, so that its pointer is one past the end of a block of 1 byte. */
-static struct block exactly(const uint8_t *bytes, size_t size)
-{
-    return holding(size == 0, bytes, size);
-}
-
-/* Whether all bytes but those of n rows have the pattern. */
-static int others_stay(struct block report, unsigned n)
-{
-    for (size_t i = 0; i < report.before + report.size; i++) {
-        int of_a_row = i >= report.before && i < report.before + (size_t)TONGSPARKLE_ROW * n;
-        if (!of_a_row && report.start[i] != pattern(i))
-            return 0;
-    }
-    return 1;
-}
 
 /* ---- a trace with what is wanted of it */
 struct row {
