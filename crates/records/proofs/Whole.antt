@@ -5,7 +5,7 @@ use native.Mathlib.Omega.{arith}
 use mathlib.Core.Path.{_≡_, refl, sym}
 use mathlib.Core.Bool.{Bool, true, false, cond, true≢false}
 use mathlib.Core.List.{List, []}
-use borrow.Author.Tests.{ltb-false, eqb-true}
+use borrow.Author.Tests.{ltb-true, ltb-false, eqb-true}
 use lib.Dec.{ltb, eqb}
 use lib.ListN.{length, getD, take, drop, length-drop}
 use Rattle.rounds.specs.declared.Event.{Event}
@@ -19,61 +19,81 @@ use Rattle.records.specs.declared.Tag.{Tag}
 use Rattle.records.specs.declared.Tag.the-variants as tag
 use Rattle.records.specs.Records.{unknown, misplaced, sizeOf, made, needs, plain, opening, judged, headed, parse, eventExtent, extent}
 
--- ---- a property of records that `Cut` and every `Wrong` have, through the tests
-module _ (P : Record → Type 0) (cut : P Cut) (wrong : (f : Fault) → P (Wrong f)) where
+size-most : (t : Tag) → sizeOf t ≤ 2
+unfolding sizeOf
+size-most tag.Opening = omega arith
+size-most tag.Send = omega arith
+size-most tag.Receive = omega arith
+size-most tag.Step = omega arith
+size-most tag.Broadcast = omega arith
+size-most tag.End = omega arith
+size-most tag.Unknown = omega arith
+
+-- ---- through the tests: a property of records that every `Wrong` has, and `Cut` where bytes are missing of an event or an end record, or of an opening
+module _ (w : List ℕ) (P : Record → Type 0) (few : length w < 5 → P Cut) (short : length w < 4 + 4 * getD (drop 3 w) 0 0 → P Cut)
+    (wrong : (f : Fault) → P (Wrong f)) where
   holds-cond : (b : Bool) {x y : Record} → (b ≡ true → P x) → (b ≡ false → P y) → P (cond b x y)
   holds-cond true p q = p refl
   holds-cond false p q = q refl
 
-  holds-needs : (k : ℕ) (w : List ℕ) {r : Record} → (k ≤ length w → P r) → P (needs k w r)
-  holds-needs k w f = holds-cond (ltb (length w) k) (λ e. cut) (λ e. f (ltb-false (length w) k e))
+  holds-needs : (k : ℕ) (v : List ℕ) {r : Record} → (length v < k → P Cut) → (k ≤ length v → P r) → P (needs k v r)
+  holds-needs k v c f = holds-cond (ltb (length v) k) (λ e. c (ltb-true (length v) k e)) (λ e. f (ltb-false (length v) k e))
 
-  holds-plain : (t : Tag) (len : ℕ) (b : List ℕ) → (len ≡ sizeOf t → len ≤ length b → P (made t (take len b))) → P (plain t len b)
-  unfolding plain
-  holds-plain t len b f =
-      holds-cond (eqb len (sizeOf t)) (λ e. holds-needs len b (f (eqb-true len (sizeOf t) e))) (λ e. wrong _)
+  -- behind the head
+  module _ (len : ℕ) (head : length w ≤ 3 + length (drop 3 w)) where
+    abbrev body : List ℕ
+    body = drop 3 w
 
-  holds-opening : (len : ℕ) (b : List ℕ) → (len ≡ 1 + 4 * getD b 0 0 → len ≤ length b → P (Opening (getD b 0 0))) → P (opening len b)
-  unfolding opening
-  holds-opening len b f =
-      holds-cond (eqb len 0) (λ e. wrong _)
-      (λ e. holds-needs 1 b
-      (λ l. holds-cond (eqb len (1 + 4 * getD b 0 0)) (λ q. holds-needs len b (f (eqb-true len (1 + 4 * getD b 0 0) q))) (λ q. wrong _)))
+    holds-plain : (t : Tag) → (len ≡ sizeOf t → len ≤ length body → P (made t (take len body))) → P (plain t len body)
+    unfolding plain
+    holds-plain t f =
+        holds-cond (eqb len (sizeOf t))
+        (λ e. let q = eqb-true len (sizeOf t) e in holds-needs len body (λ l. few (let m = size-most t in omega arith)) (f q))
+        (λ e. wrong _)
 
-  -- behind the tests of tag and place
-  holds-judged : (first : Bool) (t : Tag) (len : ℕ) (b : List ℕ)
-      → (first ≡ true → len ≡ 1 + 4 * getD b 0 0 → len ≤ length b → P (Opening (getD b 0 0)))
-      → (first ≡ false → len ≡ sizeOf t → len ≤ length b → P (made t (take len b)))
-      → P (judged first t len b)
-  unfolding judged
-  holds-judged first t len b f g =
-      holds-cond (unknown t) (λ e. wrong _)
-      (λ e. holds-cond (misplaced first t) (λ q. wrong _)
-      (λ q. holds-cond first (λ y. holds-opening len b (f y)) (λ n. holds-plain t len b (g n))))
+    holds-opening : (len ≡ 1 + 4 * getD body 0 0 → len ≤ length body → P (Opening (getD body 0 0))) → P (opening len body)
+    unfolding opening
+    holds-opening f =
+        holds-cond (eqb len 0) (λ e. wrong _)
+        (λ e. holds-needs 1 body (λ l. few (omega arith))
+        (λ l. holds-cond (eqb len (1 + 4 * getD body 0 0))
+        (λ e. let q = eqb-true len (1 + 4 * getD body 0 0) e in holds-needs len body (λ l. short (omega arith)) (f q))
+        (λ e. wrong _)))
 
-  holds-headed : (first : Bool) (w : List ℕ)
+    -- behind the tests of tag and place
+    holds-judged : (first : Bool) (t : Tag)
+        → (first ≡ true → len ≡ 1 + 4 * getD body 0 0 → len ≤ length body → P (Opening (getD body 0 0)))
+        → (first ≡ false → len ≡ sizeOf t → len ≤ length body → P (made t (take len body)))
+        → P (judged first t len body)
+    unfolding judged
+    holds-judged first t f g =
+        holds-cond (unknown t) (λ e. wrong _)
+        (λ e. holds-cond (misplaced first t) (λ q. wrong _)
+        (λ q. holds-cond first (λ y. holds-opening (f y)) (λ n. holds-plain t (g n))))
+
+  holds-headed : (first : Bool)
       → (first ≡ true → 4 + 4 * getD (drop 3 w) 0 0 ≤ length w → P (Opening (getD (drop 3 w) 0 0)))
       → (first ≡ false → (t : Tag) (b : List ℕ) → 3 + sizeOf t ≤ length w → P (made t b))
       → P (headed first w)
   unfolding headed
-  holds-headed first w f g =
-      holds-needs 3 w
-      (λ l. holds-judged first _ _ (drop 3 w)
+  holds-headed first f g =
+      holds-needs 3 w (λ l. few (omega arith))
+      (λ l. holds-judged _ (omega (arith, length-drop 3 w)) first _
       (λ y e m. f y (omega (arith, length-drop 3 w)))
       (λ n e m. g n _ _ (omega (arith, length-drop 3 w))))
 
   -- an opening stands only first, any other only later, and none behind
-  pub holds-first : (w : List ℕ) → (4 + 4 * getD (drop 3 w) 0 0 ≤ length w → P (Opening (getD (drop 3 w) 0 0))) → P (parse First w)
+  pub holds-first : (4 + 4 * getD (drop 3 w) 0 0 ≤ length w → P (Opening (getD (drop 3 w) 0 0))) → P (parse First w)
   unfolding parse
-  holds-first w f = holds-headed true w (λ e. f) (λ e. absurd (true≢false e))
+  holds-first f = holds-headed true (λ e. f) (λ e. absurd (true≢false e))
 
-  holds-later : (w : List ℕ) → ((t : Tag) (b : List ℕ) → 3 + sizeOf t ≤ length w → P (made t b)) → P (parse Later w)
+  pub holds-later : ((t : Tag) (b : List ℕ) → 3 + sizeOf t ≤ length w → P (made t b)) → P (parse Later w)
   unfolding parse
-  holds-later w f = holds-headed false w (λ e. absurd (true≢false (sym e))) (λ e. f)
+  holds-later f = holds-headed false (λ e. absurd (true≢false (sym e))) (λ e. f)
 
-  holds-behind : (w : List ℕ) → P (parse Behind w)
+  pub holds-behind : P (parse Behind w)
   unfolding parse
-  holds-behind w = holds-needs 1 w (λ l. wrong _)
+  holds-behind = holds-needs 1 w (λ l. few (omega arith)) (λ l. wrong _)
 
 -- ---- a whole record lies within the bytes
 made-extent : (t : Tag) (b : List ℕ) → extent (made t b) ≤ 3 + sizeOf t
@@ -88,10 +108,11 @@ made-extent tag.Unknown b = omega arith
 
 pub extent-within : (pl : Place) (w : List ℕ) → extent (parse pl w) ≤ length w
 unfolding extent
-extent-within First w = holds-first (λ r. extent r ≤ length w) (omega arith) (λ f. omega arith) w (λ h. h)
+extent-within First w = holds-first w (λ r. extent r ≤ length w) (λ l. omega arith) (λ l. omega arith) (λ f. omega arith) (λ h. h)
 extent-within Later w =
-    holds-later (λ r. extent r ≤ length w) (omega arith) (λ f. omega arith) w (λ t b h. let m = made-extent t b in omega arith)
-extent-within Behind w = holds-behind (λ r. extent r ≤ length w) (omega arith) (λ f. omega arith) w
+    holds-later w (λ r. extent r ≤ length w) (λ l. omega arith) (λ l. omega arith) (λ f. omega arith)
+    (λ t b h. let m = made-extent t b in omega arith)
+extent-within Behind w = holds-behind w (λ r. extent r ≤ length w) (λ l. omega arith) (λ l. omega arith) (λ f. omega arith)
 
 -- ---- and goes over a byte at least
 pub event-some : (e : Event) → 0 < eventExtent e
@@ -131,9 +152,9 @@ made-later tag.Unknown b = tt
 
 pub placed : (pl : Place) (w : List ℕ) → Placed pl (parse pl w)
 unfolding Placed
-placed First w = holds-first (Placed First) tt (λ f. tt) w (λ h. tt)
-placed Later w = holds-later (Placed Later) tt (λ f. tt) w (λ t b h. made-later t b)
-placed Behind w = holds-behind (Placed Behind) tt (λ f. tt) w
+placed First w = holds-first w (Placed First) (λ l. tt) (λ l. tt) (λ f. tt) (λ h. tt)
+placed Later w = holds-later w (Placed Later) (λ l. tt) (λ l. tt) (λ f. tt) (λ t b h. made-later t b)
+placed Behind w = holds-behind w (Placed Behind) (λ l. tt) (λ l. tt) (λ f. tt)
 
 -- ---- of no bytes at all there is no record
 pub parse-none : (pl : Place) → parse pl [] ≡ Cut

@@ -65,7 +65,7 @@ module _ (hi lo n : ℕ) (a b rest : List ℕ) (fa : length a ≡ 4 * n) (fb : l
 
   only : Only (parse First u)
   unfolding Only
-  only = holds-first Only tt (λ f. tt) u (λ h. refl)
+  only = holds-first u Only (λ l. tt) (λ l. tt) (λ f. tt) (λ h. refl)
 
   same-script : (r : Record) → parse First u ≡ r → Only r → Placed First r
       → (script First w .events ≡ script First u .events) × (closes (script First w) ≡ closes (script First u))
