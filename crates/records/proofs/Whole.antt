@@ -156,6 +156,25 @@ placed First w = holds-first w (Placed First) (λ l. tt) (λ l. tt) (λ f. tt) (
 placed Later w = holds-later w (Placed Later) (λ l. tt) (λ l. tt) (λ f. tt) (λ t b h. made-later t b)
 placed Behind w = holds-behind w (Placed Behind) (λ l. tt) (λ l. tt) (λ f. tt)
 
+-- so what holds of each record where it may stand holds of the one that is read
+pub each-placed : (Q : Place → Record → Type 0) → ((n : ℕ) → Q First (Opening n)) → ((e : Event) → Q Later (Happens e)) → Q Later End
+    → ((pl : Place) (f : Fault) → Q pl (Wrong f)) → ((pl : Place) → Q pl Cut) → (pl : Place) (w : List ℕ) → Q pl (parse pl w)
+unfolding Placed
+each-placed Q opens happens ends wrong cut pl w = go pl (parse pl w) (placed pl w)
+  where
+    go : (pl : Place) (r : Record) → Placed pl r → Q pl r
+    go First (Opening n) h = opens n
+    go First (Happens e) h = absurd h
+    go First End h = absurd h
+    go Later (Opening n) h = absurd h
+    go Later (Happens e) h = happens e
+    go Later End h = ends
+    go Behind (Opening n) h = absurd h
+    go Behind (Happens e) h = absurd h
+    go Behind End h = absurd h
+    go pl (Wrong f) h = wrong pl f
+    go pl Cut h = cut pl
+
 -- ---- of no bytes at all there is no record
 pub parse-none : (pl : Place) → parse pl [] ≡ Cut
 unfolding parse headed

@@ -26,7 +26,7 @@ use Rattle.records.specs.declared.Record.{Record}
 use Rattle.records.specs.declared.Record.the-variants.{Opening, Happens, End, Wrong, Cut}
 use Rattle.records.specs.Records.{parse, extent, eventExtent}
 use Rattle.records.specs.Script.{Script, valuesOf, stopped, adds, onRecord, script}
-use Rattle.records.proofs.Whole.{Placed, placed}
+use Rattle.records.proofs.Whole.{each-placed}
 use Rattle.records.proofs.Scripts.{script-is, script-wrong, script-cut}
 use Rattle.trace.specs.declared.Ending.{Ending}
 use Rattle.trace.specs.declared.Ending.the-variants.{Judged}
@@ -133,28 +133,12 @@ module _ (m : Mem) (w : List ℕ) where
   cut-tells Later e = stopped-tells Later (script-cut Later w e)
   cut-tells Behind e = stopped-tells Behind (script-cut Behind w e)
 
-  record-tells : (pl : Place) (r : Record) → parse pl w ≡ r → Placed pl r → toldAhead pl m w ≡ onTurn (wordsOn m w r) w (turnOn (controlOf m) w r)
-  unfolding Placed turnOn wordsOn onTurn reportsOf
-  record-tells First (Opening n) e h = opened-tells n e
-  record-tells First (Happens v) e h = absurd h
-  record-tells First End e h = absurd h
-  record-tells First (Wrong x) e h = wrong-tells First x e
-  record-tells First Cut e h = cut-tells First e
-  record-tells Later (Opening n) e h = absurd h
-  record-tells Later (Happens v) e h = happened-tells v e
-  record-tells Later End e h = ended-tells e
-  record-tells Later (Wrong x) e h = wrong-tells Later x e
-  record-tells Later Cut e h = cut-tells Later e
-  record-tells Behind (Opening n) e h = absurd h
-  record-tells Behind (Happens v) e h = absurd h
-  record-tells Behind End e h = absurd h
-  record-tells Behind (Wrong x) e h = wrong-tells Behind x e
-  record-tells Behind Cut e h = cut-tells Behind e
-
 -- ---- a turn: what is told ahead of it is what it tells, and then what is told ahead after it
 turn-tells : (pl : Place) (m : Mem) (w : List ℕ) → toldAhead pl m w ≡ onTurn (turned pl m w) w (turn pl (controlOf m) w)
-unfolding turn turned
-turn-tells pl m w = record-tells m w pl (parse pl w) refl (placed pl w)
+unfolding turn turned turnOn wordsOn onTurn reportsOf
+turn-tells pl m w =
+    each-placed (λ pl r. parse pl w ≡ r → toldAhead pl m w ≡ onTurn (wordsOn m w r) w (turnOn (controlOf m) w r))
+    (opened-tells m w) (happened-tells m w) (ended-tells m w) (wrong-tells m w) (cut-tells m w) pl w refl
 
 pub more-tells : (pl : Place) (m : Mem) (w : List ℕ) → turn pl (controlOf m) w ≡ More → toldAhead pl m w ≡ []
 unfolding onTurn

@@ -22,7 +22,7 @@ use Rattle.records.specs.declared.Record.{Record}
 use Rattle.records.specs.declared.Record.the-variants.{Opening, Happens, End, Wrong, Cut}
 use Rattle.records.specs.Records.{parse, extent, eventExtent}
 use Rattle.records.specs.Script.{Script, valuesOf, stopped, adds, onRecord, script}
-use Rattle.records.proofs.Whole.{Placed, placed}
+use Rattle.records.proofs.Whole.{each-placed}
 use Rattle.records.proofs.Scripts.{script-is, script-wrong, script-cut}
 use Rattle.trace.specs.declared.Ending.{Ending}
 use Rattle.trace.specs.declared.Ending.the-variants.{Judged, Faulty}
@@ -116,28 +116,12 @@ module _ (m : Mem) (w : List ℕ) where
   cut-ahead Later e = stopped-ahead Later (script-cut Later w e) ∙ rw e
   cut-ahead Behind e = stopped-ahead Behind (script-cut Behind w e) ∙ rw e
 
-  record-ahead : (pl : Place) (r : Record) → parse pl w ≡ r → Placed pl r → ahead pl m w ≡ onTurn pl (wordsOn m w r) w (turnOn (controlOf m) w r)
-  unfolding Placed turnOn wordsOn onTurn
-  record-ahead First (Opening n) e h = opened-ahead n e
-  record-ahead First (Happens v) e h = absurd h
-  record-ahead First End e h = absurd h
-  record-ahead First (Wrong x) e h = wrong-ahead First x e
-  record-ahead First Cut e h = cut-ahead First e
-  record-ahead Later (Opening n) e h = absurd h
-  record-ahead Later (Happens v) e h = happened-ahead v e
-  record-ahead Later End e h = ended-ahead e
-  record-ahead Later (Wrong x) e h = wrong-ahead Later x e
-  record-ahead Later Cut e h = cut-ahead Later e
-  record-ahead Behind (Opening n) e h = absurd h
-  record-ahead Behind (Happens v) e h = absurd h
-  record-ahead Behind End e h = absurd h
-  record-ahead Behind (Wrong x) e h = wrong-ahead Behind x e
-  record-ahead Behind Cut e h = cut-ahead Behind e
-
 -- whatever the bytes, what is ahead before a turn is ahead after it
 pub turn-ahead : (pl : Place) (m : Mem) (w : List ℕ) → ahead pl m w ≡ onTurn pl (turned pl m w) w (turn pl (controlOf m) w)
-unfolding turn turned
-turn-ahead pl m w = record-ahead m w pl (parse pl w) refl (placed pl w)
+unfolding turn turned turnOn wordsOn onTurn
+turn-ahead pl m w =
+    each-placed (λ pl r. parse pl w ≡ r → ahead pl m w ≡ onTurn pl (wordsOn m w r) w (turnOn (controlOf m) w r))
+    (opened-ahead m w) (happened-ahead m w) (ended-ahead m w) (wrong-ahead m w) (cut-ahead m w) pl w refl
 
 pub more-ahead : (pl : Place) (m : Mem) (w : List ℕ) → turn pl (controlOf m) w ≡ More → ahead pl m w ≡ ended (atEnd pl) (turned pl m w)
 unfolding onTurn
