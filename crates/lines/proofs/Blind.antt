@@ -7,11 +7,9 @@ use mathlib.Core.Bool.{Bool, true, false, cond}
 use mathlib.Core.List.{List, [], _∷_, _++_, append-assoc, append-nil}
 use borrow.Author.Tests.{ne-eqb}
 use lib.Dec.{ltb, eqb}
-use Rattle.voting.specs.declared.Holding.{Holding}
 use Rattle.voting.specs.declared.Choice.{Choice}
 use Rattle.voting.specs.declared.Choice.the-variants.{Absent, Present}
-use Rattle.rounds.specs.declared.Stage.the-variants.{Sending, Collecting, Pending, Idle}
-use Rattle.rounds.specs.Run.{Control, Config}
+use Rattle.rounds.specs.Run.{Config}
 use Rattle.rounds.specs.Runs.{Report, valueAt}
 use Rattle.rounds.specs.Claims.{Agree}
 use Rattle.words.specs.declared.Standing.{Standing}
@@ -178,21 +176,9 @@ carrier-lines w =
     )
 
 -- ---- the `w` lines go by what never sees a value
-waits : Control → ℕ → List ℕ
-waits c p =
-    (letterW ∷ [])
-    ++ (field p
-    ++ (field (c .site p .round)
-    ++ (field (c .count p Sending)
-    ++ (field (c .count p Collecting)
-    ++ (field (c .count p Pending)
-    ++ (field (c .count p Idle)
-    ++ (setField (c .site p .reach)
-    ++ lineFeed)))))))
-
 waits-alone : (c d : Config) → c .control ≡ d .control → wLines c ≡ wLines d
-unfolding wLines wLine standing waits
-waits-alone c d e = ap (λ (x : Control). linesBelow (x .size) (waits x)) e
+unfolding wLines wLine standing
+waits-alone c d e = rw e
 
 -- ---- so opening values change nothing of what the carrier gets
 pub carrier-blind : (w u : List ℕ) → Revalued w u → withoutVotes (sheet w) ≡ withoutVotes (sheet u)
@@ -206,6 +192,4 @@ pub vote-line-blind : (w u : List ℕ) (d : Revalued w u) (p : ℕ)
     → Agree (valueAt (valuesOf (d .size) w)) (valueAt (valuesOf (d .size) u)) (outcome w .config .control .site p .reach)
     → vLine p (standing (outcome w .config) p) ≡ vLine p (standing (outcome u .config) p)
 unfolding vLine standing
-vote-line-blind w u d p agree =
-    ap (λ (h : Holding). (letterV ∷ []) ++ (field p ++ (field (h .value) ++ (choiceField (h .vote) ++ (choiceField (h .decision) ++ lineFeed)))))
-    (opening-values-alone w u d .holding [] p (rw (append-nil w) agree))
+vote-line-blind w u d p agree = rw (opening-values-alone w u d .holding [] p (rw (append-nil w) agree), standing)
