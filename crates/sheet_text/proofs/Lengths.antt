@@ -16,7 +16,7 @@ use Rattle.words.specs.Spelled.{wordOf}
 use Rattle.sheet_text.specs.Written.{Fits}
 use Rattle.lines.specs.Pieces.{lineRoom}
 use Rattle.lines.specs.Text.{glyph, decimal, hex, field, setField, choiceField, hLine, wLine, vLine, eLine}
-use Rattle.sheet_text.proofs.Writing.{decimal-one, decimal-more}
+use Rattle.sheet_text.proofs.Decimals.{decimal-one, decimal-more}
 
 -- ---- numbers
 decimal-length : (k n : ℕ) → n < 10 ^ suc k → length (decimal n) ≤ suc k
@@ -54,46 +54,34 @@ unfolding choiceField wordOf
 choice-length Absent h = omega arith
 choice-length (Present x) h = field-length x h
 
--- ---- lines; no line is longer than a `w` line may be
-h-length : (p r h : ℕ) → p < 256 → r < 2 ^ 32 → length (hLine p r h) ≤ 66
-unfolding hLine
-h-length p r h hp hr = simp length-append (omega (arith, byte-field-length p hp, field-length r hr, set-field-length h))
+-- ---- each line fits where there is room for a line: none is longer than a `w` line may be
+fits : {l w : List ℕ} {at : ℕ} → length w ≤ lineRoom → at + lineRoom ≤ length l → Fits l at w
+fits h f = record { room = omega (arith, h, f) }
 
-w-length : (p : ℕ) (s : Standing) → p < 256 → s .round < 2 ^ 32 → s .sending < 2 ^ 32 → s .collecting < 2 ^ 32 → s .pending < 2 ^ 32 → s .idle < 2 ^ 32
-    → length (wLine p s) ≤ 66
+pub h-fits : {l : List ℕ} {at : ℕ} (p r h : ℕ) → p < 256 → r < 2 ^ 32 → at + lineRoom ≤ length l → Fits l at (hLine p r h)
+unfolding hLine
+h-fits p r h hp hr f = fits (simp length-append (omega (arith, byte-field-length p hp, field-length r hr, set-field-length h))) f
+
+pub w-fits : {l : List ℕ} {at : ℕ} (p : ℕ) (s : Standing) → p < 256 → s .round < 2 ^ 32 → s .sending < 2 ^ 32 → s .collecting < 2 ^ 32 → s .pending < 2 ^ 32
+    → s .idle < 2 ^ 32 → at + lineRoom ≤ length l → Fits l at (wLine p s)
 unfolding wLine
-w-length p s hp hr hs hc hw hi =
+w-fits p s hp hr hs hc hw hi f =
     let head : length (field p) ≤ 4 = byte-field-length p hp in
     let round : length (field (s .round)) ≤ 11 = field-length (s .round) hr in
     let sending : length (field (s .sending)) ≤ 11 = field-length (s .sending) hs in
     let collecting : length (field (s .collecting)) ≤ 11 = field-length (s .collecting) hc in
     let pending : length (field (s .pending)) ≤ 11 = field-length (s .pending) hw in
     let idle : length (field (s .idle)) ≤ 11 = field-length (s .idle) hi in
-    simp length-append (omega (arith, set-field-length (s .reach)))
-
-v-length : (p : ℕ) (s : Standing) → p < 256 → s .value < 2 ^ 32 → wordOf (s .vote) < 2 ^ 32 → wordOf (s .decision) < 2 ^ 32 → length (vLine p s) ≤ 66
-unfolding vLine
-v-length p s hp hx hv hd =
-    simp length-append (omega (arith, byte-field-length p hp, field-length (s .value) hx, choice-length (s .vote) hv, choice-length (s .decision) hd))
-
-e-length : (events number : ℕ) → events < 2 ^ 32 → number < 2 ^ 32 → length (eLine events number) ≤ 66
-unfolding eLine
-e-length events number he hn = simp length-append (omega (arith, field-length events he, field-length number hn))
-
--- ---- so each fits where there is room for a line
-fits : {l w : List ℕ} {at : ℕ} → length w ≤ lineRoom → at + lineRoom ≤ length l → Fits l at w
-fits h f = record { room = omega (arith, h, f) }
-
-pub h-fits : {l : List ℕ} {at : ℕ} (p r h : ℕ) → p < 256 → r < 2 ^ 32 → at + lineRoom ≤ length l → Fits l at (hLine p r h)
-h-fits p r h hp hr f = fits (h-length p r h hp hr) f
-
-pub w-fits : {l : List ℕ} {at : ℕ} (p : ℕ) (s : Standing) → p < 256 → s .round < 2 ^ 32 → s .sending < 2 ^ 32 → s .collecting < 2 ^ 32 → s .pending < 2 ^ 32
-    → s .idle < 2 ^ 32 → at + lineRoom ≤ length l → Fits l at (wLine p s)
-w-fits p s hp a b c d e f = fits (w-length p s hp a b c d e) f
+    fits (simp length-append (omega (arith, set-field-length (s .reach)))) f
 
 pub v-fits : {l : List ℕ} {at : ℕ} (p : ℕ) (s : Standing) → p < 256 → s .value < 2 ^ 32 → wordOf (s .vote) < 2 ^ 32 → wordOf (s .decision) < 2 ^ 32
     → at + lineRoom ≤ length l → Fits l at (vLine p s)
-v-fits p s hp a b c f = fits (v-length p s hp a b c) f
+unfolding vLine
+v-fits p s hp hx hv hd f =
+    fits
+    (simp length-append (omega (arith, byte-field-length p hp, field-length (s .value) hx, choice-length (s .vote) hv, choice-length (s .decision) hd)))
+    f
 
 pub e-fits : {l : List ℕ} {at : ℕ} (events number : ℕ) → events < 2 ^ 32 → number < 2 ^ 32 → at + lineRoom ≤ length l → Fits l at (eLine events number)
-e-fits events number a b f = fits (e-length events number a b) f
+unfolding eLine
+e-fits events number he hn f = fits (simp length-append (omega (arith, field-length events he, field-length number hn))) f

@@ -3,7 +3,7 @@
 use Prim.Native.Nat.{ℕ, _<_}
 use native.Mathlib.Omega.{arith}
 use mathlib.Core.Path.{_∙_}
-use Rattle.sheet_text.proofs.Writing.{one-fits, one-wrote, two-fits, two-wrote, head-fits, last-fits, last-wrote}
+use Rattle.sheet_text.proofs.Decimals.{one-fits, one-wrote, two-fits, two-wrote, head-fits, last-fits, last-wrote}
 use borrow.Author.Needs.{needs}
 use borrow.Fn.Kinds.{In}
 use borrow.Fn.PlainCycle.{Measures, is, falls, and}
