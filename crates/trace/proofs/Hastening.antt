@@ -218,6 +218,13 @@ module _ (m : Mem) (w : List ℕ) where
   unfolding swift goes left
   too-few l = (rw (lt-ltb (length w) swiftExtent l), rw (lt-ltb (length w) swiftExtent l))
 
+-- tag and length of a send and of a receive as one number
+abbrev sendHead : ℕ
+sendHead = 1048578
+
+abbrev receiveHead : ℕ
+receiveHead = 1114114
+
 -- the head of the bytes, as the one number that the code reads
 pub record Numbered (w : List ℕ) (r : ℕ) : Type 0 where
   pub long : swiftExtent ≤ length w
@@ -228,31 +235,31 @@ module _ (m : Mem) {w : List ℕ} {r : ℕ} (h : Numbered w r) where
   whole-is : ltb (length w) swiftExtent ≡ false
   whole-is = le-ltb (length w) swiftExtent (h .long)
 
-  is-send : headIs 16 w ≡ eqb r 1048578
+  is-send : headIs 16 w ≡ eqb r sendHead
   is-send = head-is w 16 r (h .bytes 0) (h .bytes 1) (h .bytes 2) (h .number)
 
-  is-receive : headIs 17 w ≡ eqb r 1114114
+  is-receive : headIs 17 w ≡ eqb r receiveHead
   is-receive = head-is w 17 r (h .bytes 0) (h .bytes 1) (h .bytes 2) (h .number)
 
-  pub found-send : {v : Verdict} {n : Mem} {k : ℕ} → r ≡ 1048578 → (v ≡ verdict (controlOf m) (Send (getD w 3 0) (getD w 4 0)))
+  pub found-send : {v : Verdict} {n : Mem} {k : ℕ} → r ≡ sendHead → (v ≡ verdict (controlOf m) (Send (getD w 3 0) (getD w 4 0)))
       × (n ≡ applied m (Send (getD w 3 0) (getD w 4 0))) → k ≡ numberOf v → Found m w (eqb k 0) n
   unfolding swift goes left accepted
-  found-send e s q = (rw (whole-is, is-send, eq-eqb r 1048578 e, q, s .0), rw (whole-is, is-send, eq-eqb r 1048578 e) (s .1))
+  found-send e s q = (rw (whole-is, is-send, eq-eqb r sendHead e, q, s .0), rw (whole-is, is-send, eq-eqb r sendHead e) (s .1))
 
-  pub found-receive : {v : Verdict} {n : Mem} {k : ℕ} → (r ≡ 1048578 → ⊥) → r ≡ 1114114
+  pub found-receive : {v : Verdict} {n : Mem} {k : ℕ} → (r ≡ sendHead → ⊥) → r ≡ receiveHead
       → (v ≡ verdict (controlOf m) (Receive (getD w 3 0) (getD w 4 0))) × (n ≡ applied m (Receive (getD w 3 0) (getD w 4 0))) → k ≡ numberOf v
       → Found m w (eqb k 0) n
   unfolding swift goes left accepted
   found-receive f e s q = (
-    rw (whole-is, is-send, ne-eqb r 1048578 f, is-receive, eq-eqb r 1114114 e, q, s .0),
-    rw (whole-is, is-send, ne-eqb r 1048578 f, is-receive, eq-eqb r 1114114 e) (s .1),
+    rw (whole-is, is-send, ne-eqb r sendHead f, is-receive, eq-eqb r receiveHead e, q, s .0),
+    rw (whole-is, is-send, ne-eqb r sendHead f, is-receive, eq-eqb r receiveHead e) (s .1),
   )
 
-  pub found-none : (r ≡ 1048578 → ⊥) → (r ≡ 1114114 → ⊥) → Found m w false m
+  pub found-none : (r ≡ sendHead → ⊥) → (r ≡ receiveHead → ⊥) → Found m w false m
   unfolding swift goes left
   found-none f g = (
-    rw (whole-is, is-send, ne-eqb r 1048578 f, is-receive, ne-eqb r 1114114 g),
-    rw (whole-is, is-send, ne-eqb r 1048578 f, is-receive, ne-eqb r 1114114 g),
+    rw (whole-is, is-send, ne-eqb r sendHead f, is-receive, ne-eqb r receiveHead g),
+    rw (whole-is, is-send, ne-eqb r sendHead f, is-receive, ne-eqb r receiveHead g),
   )
 
 -- ---- the loop over them: at a place, all that is taken is what was taken so far and what is taken from there on
