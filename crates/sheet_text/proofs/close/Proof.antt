@@ -57,7 +57,7 @@ same-length : tie.Need-same-length Inv-loop μ-loop
 same-length c = wrote-length (c .before .before .loop .inv .wrote)
 
 returns : tie.Need-returns Inv-loop μ-loop
-returns c = short-came (c .before .before .loop .inv) (next _ _ _ (c .before .before .before .size .ensures .0) (c .before .loop-test .taken)) (c .if1 .taken)
+returns c = short-came (c .before .before .loop .inv) (next _ _ _ (c .before .before .before .size .ensures .0) (omega arith)) (omega arith)
 
 put-closing-requires : tie.Need-put-closing-requires Inv-loop μ-loop
 put-closing-requires c κs = omega arith
@@ -72,7 +72,7 @@ loop-less : tie.Need-loop-less Inv-loop μ-loop
 loop-less c = omega arith
 
 loop-again : tie.Need-loop-again Inv-loop μ-loop
-loop-again c = line-on (c .before .before .before .before .before .before .loop .inv) (next _ _ _ (c .before .before .before .before .before .before .before .size .ensures .0) (c .before .before .before .before .before .loop-test .taken)) (c .before .before .before .before .if1 .left) (c .before .before .put-closing .ensures)
+loop-again c = line-on (c .before .before .before .before .before .before .loop .inv) (next _ _ _ (c .before .before .before .before .before .before .before .size .ensures .0) (omega arith)) (c .before .before .before .before .if1 .left) (c .before .before .put-closing .ensures)
 
 same-length-2 : tie.Need-same-length-2 Inv-loop μ-loop
 same-length-2 c = wrote-length (c .before .loop .inv .wrote)

@@ -26,7 +26,7 @@ same-length : tie.Need-same-length Inv-loop μ-loop
 same-length c = wrote-length (c .before .loop .inv .wrote)
 
 returns : tie.Need-returns Inv-loop μ-loop
-returns c = full-came (c .before .loop .inv) (c .if1 .taken)
+returns c = full-came (c .before .loop .inv) (omega arith)
 
 sub-hasten : tie.Need-sub-hasten Inv-loop μ-loop
 sub-hasten c = c .before .before .loop .inv .within
