@@ -4,7 +4,7 @@ use Prim.Native.Nat.{ℕ, _<_, _^_}
 use mathlib.Core.Path.{_≡_, sym, subst}
 use mathlib.Core.Bool.{Bool, true, false, not}
 use mathlib.Core.List.{[], _∷_, List}
-use lib.Dec.{T as Holds, eqb, eqb→eq, T-not}
+use lib.Dec.{T as Holds, eqb, eqb→eq}
 use package.mir.Syntax.{Ty, Body, erased, named, mut, w32, tyInt, tyRef, tyArray, skip, seq, assign, block, loop, cond, switch, exit, return, call}
 use package.mir.Val.{Val, vint, vptr, hasTy, WT}
 use base.Fml.{GName, Lft, Fml}
@@ -67,7 +67,7 @@ tail (exit n) = skip
 tail return = skip
 tail (call k xs d) = skip
 
--- ---- a callee's answer: it is a word, and what a test of it against 0 tells
+-- ---- a callee's answer: it is a word, and 0 where the test against 0 fails
 pub a-word : (v : Val) (r : ℕ) → v ≡ vint w32 r → r < 2 ^ 32 → Holds (hasTy (tyInt w32) v) × WT v
 a-word v r is small = subst (λ (y : Val). Holds (hasTy (tyInt w32) y) × WT y) (sym is) (tt, record { fits = small })
 
@@ -77,6 +77,3 @@ not-not false h = h
 
 pub is-zero : (r : ℕ) → Holds (not (not (eqb r 0))) → r ≡ 0
 is-zero r h = eqb→eq r 0 (not-not (eqb r 0) h)
-
-pub not-zero : (r : ℕ) → Holds (not (eqb r 0)) → r ≡ 0 → ⊥
-not-zero r h z = T-not (eqb r 0) h (subst (λ (y : ℕ). Holds (eqb y 0)) (sym z) tt)

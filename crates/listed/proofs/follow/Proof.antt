@@ -54,7 +54,7 @@ use denote.Exit.{yes}
 use Rattle.words.specs.Layout.{Mem}
 use Rattle.listed.specs.declared.Event.{Event}
 use Rattle.listed.proofs.Turning.{Happened, Followed, Remains, stops, goes-on, ends}
-use Rattle.listed.proofs.Walking.{words, R, Ev, vals, none, ref, Run, kept, lent, tail, is-zero, not-zero, a-word}
+use Rattle.listed.proofs.Walking.{words, R, Ev, vals, none, ref, Run, kept, lent, tail, is-zero, a-word}
 use Rattle.listed.proofs.Event as T
 use Rattle.listed.proofs.Event.Laws as T′
 use Rattle.listed.proofs.happen as hap
@@ -260,7 +260,7 @@ module _ {M : Type 1} (𝓤 : URA M) (H : Heap 𝓤) (A : Atoms 𝓤) (W : Given
         returns-within ! Post refl (look ! 22 refl) $
         forget ! 4 refl $ forget ! 6 refl $ forget ! 8 refl $ forget ! 10 refl $ forget ! 12 refl $ forget ! 14 refl $
         forget ! 16 refl $ forget ! 18 refl $ forget ! 20 refl $ forget ! 22 refl $
-        freed (ws .0) r small (stops m₀ es (s .0) none (s .1) (s .3) (ltb→lt (s .0) n less) r (ws .0) said (not-zero r bad)))
+        freed (ws .0) r small (stops m₀ es (s .0) none (s .1) (s .3) (ltb→lt (s .0) n less) r (ws .0) said (λ z. rw z at bad)))
         (λ ok. skips ! $ exec ! C Λ En more (anyQ (Turned s)) $
         assigns-last ! (bin ! (load ! (from ! (stop !)) (look ! 16 refl)) (lit ! tt) (record { fits = next-fits less })) (from ! (stop !))
         (store ! 16 refl (tt, record { fits = next-fits less })) $

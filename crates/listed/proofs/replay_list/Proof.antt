@@ -44,7 +44,7 @@ use denote.Exit.{yes}
 use Rattle.words.specs.Layout.{Mem}
 use Rattle.listed.specs.declared.Event.{Event}
 use Rattle.listed.proofs.Turning.{Started, Followed, Passed, list-stops, list-goes-on}
-use Rattle.listed.proofs.Walking.{words, R, Ev, ref, Run, kept, lent, is-zero, not-zero, a-word}
+use Rattle.listed.proofs.Walking.{words, R, Ev, ref, Run, kept, lent, is-zero, a-word}
 use Rattle.listed.proofs.Event as T
 use Rattle.listed.proofs.start as sta
 use Rattle.listed.proofs.start.Symbol as sta-def
@@ -217,7 +217,7 @@ module _ {M : Type 1} (𝓤 : URA M) (H : Heap 𝓤) (A : Atoms 𝓤) (W : Given
         returns-within ! Post refl (look ! 21 refl) $
         forget ! 7 refl $ forget ! 9 refl $ forget ! 11 refl $ forget ! 13 refl $ forget ! 15 refl $ forget ! 17 refl $
         forget ! 19 refl $ forget ! 21 refl $ move ! (4 ∷ []) $ let-go ! $
-        freed l₀ l₁ l₂ l₃ l₄ l₅ l₆ l₇ l₈ (ws .0) r small (list-stops n (vs .now) (es .now) r (ws .0) said (not-zero r bad)))
+        freed l₀ l₁ l₂ l₃ l₄ l₅ l₆ l₇ l₈ (ws .0) r small (list-stops n (vs .now) (es .now) r (ws .0) said (λ z. rw z at bad)))
         (λ ok. skips ! $ exec ! C Λ (En l₀ l₁ l₂ l₃ l₄ l₅ l₆ l₇ l₈) mir.t-5 (atRet (En l₀ l₁ l₂ l₃ l₄ l₅ l₆ l₇ l₈) Post) $
         assigns ! (addr ! (from ! (hop ! (look ! 19 refl) (stop !)))) (from ! (stop !)) (init ! 5 refl (tt, tt)) $
         -- the run is lent again to `follow`

@@ -1,12 +1,13 @@
 -- `tongsparkle_replay` tests the room, replays the trace, and writes the rows of the run that it reached.
 -- Assumes nothing.
+use native.Mathlib.Omega.{arith}
 use Rattle.tongsparkle.proofs.Meaning.{no-room, room-enough}
 use borrow.Author.Needs.{needs}
 use Rattle.tongsparkle.proofs.tongsparkle_replay.Statement.{statement}
 use Rattle.tongsparkle.proofs.tongsparkle_replay.Tie as tie
 
 returns : tie.Need-returns
-returns c = let a = c .before .before .before .args in no-room (a .trace .now) (a .report .now) (c .if1 .taken)
+returns c = let a = c .before .before .before .args in no-room (a .trace .now) (a .report .now) (omega arith)
 
 replay-requires : tie.Need-replay-requires
 replay-requires c κs = search needs
