@@ -10,7 +10,8 @@ ghost use Rattle.rounds.specs.declared.Verdict.the-variants.{Accepted};
 ghost use Rattle.rounds.specs.Run.{Config, opening};
 ghost use Rattle.rounds.specs.Verdicts.{numberOf, openVerdict, number};
 ghost use Rattle.rounds.specs.Events.{apply};
-ghost use Rattle.rounds.specs.Examples.{valuesOf, sevenAndFour};
+ghost use Rattle.rounds.specs.Runs.{valueAt};
+ghost use Rattle.rounds.specs.Examples.{sevenAndFour};
 ghost use Rattle.words.specs.Shows.{Shows, Given};
 ghost use Rattle.examples.specs.Expected as Expected;
 
@@ -68,7 +69,7 @@ fn put(run: &mut [u32; RUN], e: Event) -> u32
 
 // Two processes, with the values 7 and 4.
 fn begin_two(run: &mut [u32; RUN])
-    ensures { λ r. ⌜ Shows (now (run .exit)) (opening 2 (valuesOf sevenAndFour)) ⌝ }
+    ensures { λ r. ⌜ Shows (now (run .exit)) (opening 2 (valueAt sevenAndFour)) ⌝ }
 {
     let values = [7u32, 4];
     begin(&mut *run, 2, &values[..]);

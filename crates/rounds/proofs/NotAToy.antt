@@ -15,9 +15,9 @@ use Rattle.rounds.specs.Run.{Site, Control, Config, opening}
 use Rattle.rounds.specs.Stages.{tick}
 use Rattle.rounds.specs.Verdicts.{verdict}
 use Rattle.rounds.specs.Events.{receiveControl, stepControl, nextControl, apply}
-use Rattle.rounds.specs.Runs.{after}
+use Rattle.rounds.specs.Runs.{after, valueAt}
 use Rattle.rounds.specs.Allowed.{Allowed}
-use Rattle.rounds.specs.Examples.{run, waits, sevenAndFour, valuesOf, trace1}
+use Rattle.rounds.specs.Examples.{run, waits, sevenAndFour, trace1}
 use Rattle.rounds.proofs.Updates.{at-same, at₂-same}
 use Rattle.rounds.proofs.Answers.{accepted-is, allowed}
 use Rattle.rounds.proofs.Broadcasts.{send-sent, sends-sent}
@@ -26,7 +26,7 @@ use Rattle.rounds.proofs.Running.{apply-accepted}
 -- it does not refuse everything
 pub not-refusing : ((c : Control) (e : Event) → verdict c e ≡ Accepted → ⊥) → ⊥
 unfolding run
-not-refusing h = h (opening 2 (valuesOf sevenAndFour) .control) (Send 0 0) refl
+not-refusing h = h (opening 2 (valueAt sevenAndFour) .control) (Send 0 0) refl
 
 -- it does not give the same figures for every trace
 pub not-one-sheet : ((es fs : List Event) → waits (run sevenAndFour es) 0 ≡ waits (run sevenAndFour fs) 0) → ⊥
@@ -37,14 +37,14 @@ not-one-sheet h = let e : _≡_ {A = ℕ} 1 2 = ap (λ (l : List ℕ). getD l 0 
 pub not-standing : ((c : Config) (e : Event) → verdict (c .control) e ≡ Accepted → (p : ℕ) → apply c e .control .site p ≡ c .control .site p) → ⊥
 unfolding run
 not-standing h =
-    let e : _≡_ {A = ℕ} 1 0 = ap (λ (s : Site). s .sent) (h (opening 2 (valuesOf sevenAndFour)) (Send 0 0) refl 0) in omega arith
+    let e : _≡_ {A = ℕ} 1 0 = ap (λ (s : Site). s .sent) (h (opening 2 (valueAt sevenAndFour)) (Send 0 0) refl 0) in omega arith
 
 -- it does not work at the first event and then only count
 pub not-only-counting : ((n : ℕ) (v : ℕ → ℕ) (e : Event) (es : List Event) (p : ℕ)
     → after (opening n v) (e ∷ es) .control .site p ≡ after (opening n v) (e ∷ []) .control .site p) → ⊥
 unfolding run
 not-only-counting h =
-    let e : _≡_ {A = ℕ} 3 1 = ap (λ (s : Site). s .sent) (h 2 (valuesOf sevenAndFour) (Send 0 0) (Send 0 1 ∷ []) 0) in omega arith
+    let e : _≡_ {A = ℕ} 3 1 = ap (λ (s : Site). s .sent) (h 2 (valueAt sevenAndFour) (Send 0 0) (Send 0 1 ∷ []) 0) in omega arith
 
 -- ---- every accepted event moves something: a sent set, what is in transit, or a round
 next-moves : (c : Control) (e : Event) → 0 < c .size → Allowed c e

@@ -4,7 +4,7 @@ use Prim.Native.Nat.{ℕ, zero, suc}
 use mathlib.Core.Bool.{Bool, true, false, _&&_}
 use mathlib.Core.List.{List, [], _∷_, _++_}
 use lib.Dec.{eqb}
-use lib.ListN.{getD, length}
+use lib.ListN.{length}
 use Rattle.sets.specs.Sets.{empty, has, with, without, union, full, only, members}
 use Rattle.voting.specs.declared.Choice.{Choice}
 use Rattle.voting.specs.declared.Choice.the-variants.{Absent, Present}
@@ -17,16 +17,13 @@ use Rattle.rounds.specs.Run.{Control, Config, at, at₂, at₃, openCont
 use Rattle.rounds.specs.Stages.{sentToAll, heardFromAll, waited, stage, index, one, tick}
 use Rattle.rounds.specs.Verdicts.{numberOf, accepted, refuse, outside, crowded, ahead, sendVerdict, receiveVerdict, stepVerdict, firstRefusal, verdict, number}
 use Rattle.rounds.specs.Events.{timely, sendControl, sendContent, receiveControl, gathered, messages, heardBy, from, stepControl, stepContent, sendsControl, sendsContent, nextControl, nextContent, ifAccepted, applyControl, applyContent, apply}
-use Rattle.rounds.specs.Runs.{after, verdicts, Report, reportOf, told, reports, replay, replayVerdict}
+use Rattle.rounds.specs.Runs.{after, verdicts, Report, reportOf, told, reports, replay, replayVerdict, valueAt}
 
 -- ---- runs from a list of opening values
-abbrev pub valuesOf : List ℕ → ℕ → ℕ
-valuesOf vs p = getD vs p 0
-
 -- to unfold `run` is to unfold the whole machine: its `unfolding` line names all of it
 unfoldable pub run : List ℕ → List Event → Config
-unfolding has with without union full only members opens message orElse valueOr lesser same least allSame agreed values votes oddRule evenRule odd rule at at₂ at₃ openControl openContent opening sentToAll heardFromAll waited stage index one tick numberOf accepted refuse outside crowded ahead sendVerdict receiveVerdict stepVerdict firstRefusal verdict number timely sendControl sendContent receiveControl gathered messages heardBy from stepControl stepContent sendsControl sendsContent nextControl nextContent ifAccepted applyControl applyContent apply after verdicts reportOf told reports replay replayVerdict
-run vs es = after (opening (length vs) (valuesOf vs)) es
+unfolding has with without union full only members opens message orElse valueOr lesser same least allSame agreed values votes oddRule evenRule odd rule at at₂ at₃ openControl openContent opening sentToAll heardFromAll waited stage index one tick numberOf accepted refuse outside crowded ahead sendVerdict receiveVerdict stepVerdict firstRefusal verdict number timely sendControl sendContent receiveControl gathered messages heardBy from stepControl stepContent sendsControl sendsContent nextControl nextContent ifAccepted applyControl applyContent apply after verdicts reportOf told reports replay replayVerdict valueAt
+run vs es = after (opening (length vs) (valueAt vs)) es
 
 -- ---- what a test looks at
 abbrev pub every : List Bool → Bool
@@ -45,7 +42,7 @@ numbersOf (w ∷ ws) = numberOf w ∷ numbersOf ws
 
 -- the numbers that the events are answered with, one after the other
 unfoldable pub numbers : List ℕ → List Event → List ℕ
-numbers vs es = numbersOf (verdicts (opening (length vs) (valuesOf vs)) es)
+numbers vs es = numbersOf (verdicts (opening (length vs) (valueAt vs)) es)
 
 abbrev pub noneRefused : List ℕ → Bool
 noneRefused [] = true
@@ -68,7 +65,7 @@ lines [] = []
 lines (r ∷ rs) = r .process ∷ r .round ∷ r .heard ∷ lines rs
 
 unfoldable pub steps : List ℕ → List Event → List ℕ
-steps vs es = lines (reports (opening (length vs) (valuesOf vs)) es)
+steps vs es = lines (reports (opening (length vs) (valueAt vs)) es)
 
 -- ---- events, many at a time
 -- p hears each of qs, one after the other

@@ -7,7 +7,7 @@ use lib.Dec.{eqb}
 use lib.ListN.{replicate}
 use Rattle.rounds.specs.Run.{noRun}
 use Rattle.rounds.specs.Verdicts.{openVerdict}
-use Rattle.rounds.specs.Runs.{Report, heeded, valueAt, nightVerdict, night, nightReports}
+use Rattle.rounds.specs.Runs.{Report, heeded, nightVerdict, night, nightReports}
 use Rattle.rounds.specs.Examples.{run, equal, waits}
 use Rattle.records.specs.Examples.{says, input}
 use Rattle.trace.specs.Outcome.{endingNumber, atEnd, closing, closes, endedBy, nobody, outcomeOf, outcome}
@@ -18,7 +18,7 @@ figures (r ∷ rs) = r .process ∷ r .round ∷ r .heard ∷ figures rs
 
 -- its number, the accepted events, and what was reported. To unfold it is to unfold reading and machine: its `unfolding` line names all of both
 unfoldable pub comesTo : List ℕ → ℕ → ℕ → List ℕ → Bool
-unfolding run openVerdict noRun heeded valueAt nightVerdict night nightReports says input endingNumber atEnd closing closes endedBy nobody outcomeOf outcome
+unfolding run openVerdict noRun heeded nightVerdict night nightReports says input endingNumber atEnd closing closes endedBy nobody outcomeOf outcome
 comesTo bytes number events reports =
     eqb (endingNumber (outcome bytes .ending)) number
     && (eqb (outcome bytes .config .control .events) events && equal (figures (outcome bytes .reports)) reports)

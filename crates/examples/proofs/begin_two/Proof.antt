@@ -2,7 +2,8 @@
 -- Assumes nothing.
 use mathlib.Core.Path.{refl}
 use Rattle.rounds.specs.Verdicts.{refuse, openVerdict}
-use Rattle.rounds.specs.Examples.{valuesOf, sevenAndFour}
+use Rattle.rounds.specs.Runs.{valueAt}
+use Rattle.rounds.specs.Examples.{sevenAndFour}
 use borrow.Author.Needs.{needs}
 use Rattle.examples.proofs.begin_two.Statement.{statement}
 use Rattle.examples.proofs.begin_two.Tie as tie
@@ -14,8 +15,8 @@ begin-requires : tie.Need-begin-requires
 begin-requires c κs = search needs
 
 returns : tie.Need-returns
-unfolding openVerdict refuse
-returns c = c .begin .ensures .1 refl (valuesOf sevenAndFour) (record { each = λ p h. refl })
+unfolding openVerdict refuse valueAt
+returns c = c .begin .ensures .1 refl (valueAt sevenAndFour) (record { each = λ p h. refl })
 
 pub begin-two-spec : {M : Type 1} → statement M
 begin-two-spec = tie.close (tie.spec slice-aggregate-begin begin-requires returns)

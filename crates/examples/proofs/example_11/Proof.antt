@@ -4,7 +4,8 @@ use lib.Dec.{lit<}
 use Rattle.rounds.specs.declared.Event.the-variants.{Send, Receive, Step, Broadcast}
 use Rattle.rounds.specs.Run.{opening}
 use Rattle.rounds.specs.Events.{apply}
-use Rattle.rounds.specs.Examples.{valuesOf, sevenAndFour, run}
+use Rattle.rounds.specs.Runs.{valueAt}
+use Rattle.rounds.specs.Examples.{sevenAndFour, run}
 use Rattle.words.specs.Shows.{standing}
 use borrow.Author.Needs.{needs}
 use Rattle.examples.proofs.example_11.Statement.{statement}
@@ -50,7 +51,7 @@ returns c =
     let c8 = c4 .before .before .before .before in
     let c12 = c8 .before .before .before .before in
     let c16 = c12 .before .before .before .before in
-    let two = opening 2 (valuesOf sevenAndFour) in
+    let two = opening 2 (valueAt sevenAndFour) in
     let spoken = apply two (Broadcast 1) in
     let stepped = apply spoken (Step 1) in
     let again = apply stepped (Broadcast 1) in

@@ -3,7 +3,8 @@
 use Rattle.rounds.specs.declared.Event.the-variants.{Send, Receive, Broadcast}
 use Rattle.rounds.specs.Run.{opening}
 use Rattle.rounds.specs.Events.{apply}
-use Rattle.rounds.specs.Examples.{valuesOf, sevenAndFour, run}
+use Rattle.rounds.specs.Runs.{valueAt}
+use Rattle.rounds.specs.Examples.{sevenAndFour, run}
 use borrow.Author.Needs.{needs}
 use Rattle.examples.proofs.example_12.Statement.{statement}
 use Rattle.examples.proofs.example_12.Tie as tie
@@ -29,7 +30,7 @@ put-requires-4 c κs = search needs
 returns : tie.Need-returns
 unfolding run
 returns c =
-    let two = opening 2 (valuesOf sevenAndFour) in
+    let two = opening 2 (valueAt sevenAndFour) in
     let sent = apply two (Send 0 1) in
     let tried = apply sent (Broadcast 0) in
     let c4 = c .before .before .before .before in

@@ -6,7 +6,7 @@ use mathlib.Core.List.{List, [], _∷_}
 use lib.Dec.{lit<}
 use Rattle.rounds.specs.Run.{Config}
 use Rattle.rounds.specs.Verdicts.{numberOf, openVerdict}
-use Rattle.rounds.specs.Runs.{valueAt, nightVerdict, night}
+use Rattle.rounds.specs.Runs.{nightVerdict, night}
 use Rattle.rounds.specs.Examples.{sevenAndFour, trace1, run}
 use Rattle.words.specs.Layout.{Mem}
 use Rattle.words.specs.Shows.{Shows, standing}
@@ -29,7 +29,7 @@ six-are : {a b d e f g : Event} → a ≡ send 0 0 → b ≡ send 0 1 → d ≡ 
 six-are h₁ h₂ h₃ h₄ h₅ h₆ = rw (h₁, h₂, h₃, h₄, h₅, h₆)
 
 number-ended : {r : ℕ} {es : List Event} → es ≡ six → r ≡ numberOf (nightVerdict 2 sevenAndFour (eventsOf es)) → r ≡ 0
-unfolding run openVerdict valueAt nightVerdict event eventOf eventsOf
+unfolding run openVerdict nightVerdict event eventOf eventsOf
 number-ended {r} e h = subst (λ (es : List Event). r ≡ numberOf (nightVerdict 2 sevenAndFour (eventsOf es))) e h
 
 shows-ended : {m : Mem} {es : List Event} → es ≡ six → Shows m (night 2 sevenAndFour (eventsOf es)) → Shows m ended
@@ -70,7 +70,7 @@ site-requires-2 : tie.Need-site-requires-2
 site-requires-2 c κs = search needs
 
 returns : tie.Need-returns
-unfolding run standing openVerdict valueAt night
+unfolding run standing openVerdict night
 returns c =
     let c6 = c .before .before .before .before .before .before in
     let c9 = c6 .before .before .before in
