@@ -3,7 +3,7 @@
 look.py public      every public function of every crate has no `requires` and at least one `ensures`; and docs/STATEMENTS.md has a row for it that names
                     two must-fail edits, or another call whose edits are its own
 look.py documents   every link in a document leads to a file, and to a heading where it names one; a link [`NAME`](FILE) to a declaration of NAME in that
-                    file; every `NAME` is declared in some crate; docs/STATEMENTS.md names every must-fail edit, as *LABEL*, and no other
+                    file; every `NAME` is declared in some crate, or listed here as another's; docs/STATEMENTS.md names every must-fail edit, as *LABEL*, and no other
 look.py assumed     by what the check of each crate said last: it is proved, and rests on no assumed contract but those that are listed here
 """
 

@@ -1,4 +1,4 @@
--- Traces and what their replay comes to, each as a test that computes: document 01's, and one for each number that a trace can give.
+-- Traces and what their replay comes to, each as a test that computes: document 01's, and one for each number that a trace can give but 4, 7 and 8.
 -- Assumes nothing.
 use Prim.Native.Nat.{ℕ}
 use mathlib.Core.Bool.{Bool, _&&_}
@@ -61,7 +61,7 @@ ours =
     -- 1: no process, and seventeen
     ∷ comesTo (1 ∷ 0 ∷ 1 ∷ 0 ∷ []) 1 0 []
     ∷ comesTo (1 ∷ 0 ∷ 69 ∷ 17 ∷ replicate 68 0) 1 0 []
-    -- 2 to 6, at the third event
+    -- 2, 3, 5 and 6, at the third event
     ∷ comesTo (openTwo ++ (send 0 0 ++ (send 0 1 ++ (send 2 0 ++ end)))) 2 2 []
     ∷ comesTo (openTwo ++ (send 0 0 ++ (send 0 1 ++ (send 0 0 ++ end)))) 3 2 []
     ∷ comesTo (openTwo ++ (send 0 0 ++ (receive 0 0 ++ (receive 0 0 ++ end)))) 5 2 []
