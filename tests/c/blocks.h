@@ -1,5 +1,5 @@
 /* Heap blocks for the tests in C that the address sanitizer looks at: each ends where its bytes end, and all its bytes have a pattern before they
-   are used, so that a byte read behind it or written anywhere is seen. */
+   are used, so that a byte read behind it, or written where none belongs, is seen. */
 
 #ifndef BLOCKS_H
 #define BLOCKS_H
