@@ -4,7 +4,7 @@ use Prim.Native.Nat.{ℕ}
 use mathlib.Core.Path.{_≡_, ap, _∙_}
 use Rattle.rounds.specs.declared.Event.{Event}
 use Rattle.rounds.specs.declared.Verdict.{Verdict}
-use Rattle.rounds.specs.Run.{Config}
+use Rattle.rounds.specs.Config.{Config}
 use Rattle.rounds.specs.Verdicts.{numberOf, number}
 use Rattle.rounds.specs.Events.{apply}
 use Rattle.words.specs.declared.Answer.{Answer}

@@ -7,7 +7,7 @@ ghost use Prim.Native.Nat.{ℕ};
 ghost use mathlib.Core.Path.{_≡_};
 ghost use lib.ListN.{length};
 ghost use Rattle.rounds.specs.declared.Verdict.the-variants.{Accepted};
-ghost use Rattle.rounds.specs.Run.{Config, opening};
+ghost use Rattle.rounds.specs.Config.{Config, opening};
 ghost use Rattle.rounds.specs.Verdicts.{numberOf, openVerdict, number};
 ghost use Rattle.rounds.specs.Events.{apply};
 ghost use Rattle.rounds.specs.Runs.{valueAt};

@@ -9,7 +9,7 @@ use borrow.Author.Tests.{ne-eqb}
 use lib.Dec.{ltb, eqb}
 use Rattle.voting.specs.declared.Choice.{Choice}
 use Rattle.voting.specs.declared.Choice.the-variants.{Absent, Present}
-use Rattle.rounds.specs.Run.{Config}
+use Rattle.rounds.specs.Config.{Config}
 use Rattle.rounds.specs.Runs.{Report, valueAt}
 use Rattle.rounds.specs.Claims.{Agree}
 use Rattle.words.specs.declared.Standing.{Standing}

@@ -16,7 +16,7 @@ use Rattle.trace.specs.declared.Told.the-variants.{Nothing}
 use Rattle.trace.specs.declared.Turn.{Turn}
 use Rattle.trace.specs.declared.Turn.the-variants.{More, Goes, Ends}
 use Rattle.trace.specs.Turns.{turn, turned}
-use Rattle.trace.specs.Haste.{swiftExtent, stays, haste}
+use Rattle.trace.specs.Haste.{hastyExtent, stays, haste}
 use Rattle.trace.proofs.Looping.{goes-within}
 use Rattle.trace.proofs.Hastening.{haste-kept}
 use Rattle.trace.proofs.Pausing.{no-bytes, more-kept}
@@ -77,10 +77,10 @@ module _ (last : Bool) (room : ℕ) (pl : Place) (m : Mem) where
       (λ k place y e. next-drop last (room - length (toldText y)) k place (turned pl m (b ∷ bs)) b bs (goes-within pl (controlOf m) (b ∷ bs) e .0)))
 
   -- where nothing is told, the room stays
-  nothing-told : (w : List ℕ) → turn Later (controlOf m) w ≡ Goes swiftExtent Later Nothing
+  nothing-told : (w : List ℕ) → turn Later (controlOf m) w ≡ Goes hastyExtent Later Nothing
       → onTurn last Later (turned Later m w) (turn Later (controlOf m) w)
       (λ k place y. follow last (room - length (toldText y)) 0 place (turned Later m w) (drop k w))
-      ≡ adds swiftExtent [] (follow last room 0 Later (turned Later m w) (drop swiftExtent w))
+      ≡ adds hastyExtent [] (follow last room 0 Later (turned Later m w) (drop hastyExtent w))
   unfolding onTurn toldText
   nothing-told w e = let same : room - 0 ≡ room = omega arith in rw (e, same)
 
@@ -94,13 +94,13 @@ haste-part last x text room wide w used First m e = let none : used + 0 ≡ used
 haste-part last x text room wide w used Behind m e = let none : used + 0 ≡ used = omega arith in rw none e
 haste-part last x text room wide w used Later m e =
     rw (← drop-drop (haste Later m (drop used w) .used) used w)
-    (haste-kept (λ u n v. x ≡ adds u text (follow last room 0 Later n v)) swift-part used m (drop used w) e)
+    (haste-kept (λ u n v. x ≡ adds u text (follow last room 0 Later n v)) hasty-part used m (drop used w) e)
   where
-    swift-part : (u : ℕ) (n : Mem) (v : List ℕ) → turn Later (controlOf n) v ≡ Goes swiftExtent Later Nothing → swiftExtent ≤ length v
+    hasty-part : (u : ℕ) (n : Mem) (v : List ℕ) → turn Later (controlOf n) v ≡ Goes hastyExtent Later Nothing → hastyExtent ≤ length v
         → x ≡ adds u text (follow last room 0 Later n v)
-        → x ≡ adds (u + swiftExtent) text (follow last room 0 Later (turned Later n v) (drop swiftExtent v))
-    swift-part u n v t l h =
+        → x ≡ adds (u + hastyExtent) text (follow last room 0 Later (turned Later n v) (drop hastyExtent v))
+    hasty-part u n v t l h =
         h
         ∙ ap (adds u text) (turn-is last room Later n v wide ∙ nothing-told last room Later n v t)
-        ∙ adds-adds u swiftExtent text [] _
+        ∙ adds-adds u hastyExtent text [] _
         ∙ rw (append-nil text)

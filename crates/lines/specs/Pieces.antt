@@ -102,5 +102,5 @@ pub record Came (x : Part) (w out : List ℕ) (p : Piece) (m out′ : List ℕ) 
   pub text : out′ ≡ over (x .text) out
   pub within : p .used ≤ length w
   pub room : p .written ≤ length out
-  -- what is left of the window where more of the trace is waited for
+  -- what is left of the bytes where more of the trace is waited for
   pub short : p .wants ≡ wants.Input → length w < p .used + longest

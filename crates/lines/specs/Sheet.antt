@@ -1,7 +1,7 @@
 -- The sheet of a trace, whole: from the bytes that are read to the bytes that are written. Assumes nothing.
 use Prim.Native.Nat.{ℕ, zero, suc}
 use mathlib.Core.List.{List, [], _∷_, _++_}
-use Rattle.rounds.specs.Run.{Config}
+use Rattle.rounds.specs.Config.{Config}
 use Rattle.rounds.specs.Runs.{Report}
 use Rattle.words.specs.Shows.{standing}
 use Rattle.trace.specs.Outcome.{Outcome, endingNumber, outcome}

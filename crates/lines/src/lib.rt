@@ -11,7 +11,7 @@ pub enum Stand {
 
 // What the next piece waits for.
 pub enum Wants {
-    // More bytes of the trace: the window has no whole record left.
+    // More bytes of the trace: those at hand have no whole record left.
     Input,
     // Room for one more line.
     Room,
@@ -21,7 +21,7 @@ pub enum Wants {
 
 // What a piece has come to.
 pub struct Piece {
-    // The bytes of the window that are used.
+    // The bytes at hand that are used.
     pub used: usize,
     // The bytes of the buffer that are written.
     pub written: usize,

@@ -7,11 +7,11 @@ use mathlib.Core.List.{List, [], _∷_, _++_}
 use Rattle.rounds.specs.declared.Event.{Event}
 use Rattle.rounds.specs.declared.Event.the-variants.{Send, Receive, Step}
 use Rattle.rounds.specs.declared.Verdict.the-variants.{Accepted}
-use Rattle.rounds.specs.Run.{Config}
+use Rattle.rounds.specs.Config.{Config}
 use Rattle.rounds.specs.Verdicts.{refuse, openVerdict}
 use Rattle.rounds.specs.Events.{apply}
 use Rattle.rounds.specs.Runs.{after, sends}
-use Rattle.rounds.proofs.Running.{after-append}
+use Rattle.rounds.proofs.After.{after-append}
 use Rattle.words.specs.Layout.{Mem}
 use Rattle.words.specs.Shows.{Shows}
 use Rattle.lockstep.specs.LockStep.{receivesBelow, oneTurn, allSend, allTurn, oneRound, manyRounds}

@@ -4,7 +4,7 @@ use machine::RUN;
 ghost use Prim.Native.Nat.{ℕ};
 ghost use mathlib.Core.Path.{_≡_};
 ghost use lib.ListN.{length};
-ghost use Rattle.rounds.specs.Run.{Config, opening};
+ghost use Rattle.rounds.specs.Config.{Config, opening};
 ghost use Rattle.rounds.specs.Runs as Runs;
 ghost use Rattle.rounds.specs.Runs.{after};
 ghost use Rattle.words.specs.Shows.{Shows, Given};

@@ -48,8 +48,8 @@ module _ (r s : ℕ) (p : r < 2 ^ 32) (q : s < 2 ^ 32) where
   pub lead-late : ltZ (toZ w64 (ofZ w64 (toZ w64 r -ℤ toZ w64 s))) (pos 0) ≡ true → r < s
   lead-late e = ltb-true r s (sym late ∙ e)
 
-  pub lead-reached : ltZ (toZ w64 (ofZ w64 (toZ w64 r -ℤ toZ w64 s))) (pos 0) ≡ false → s ≤ r
-  lead-reached e = ltb-false r s (sym late ∙ e)
+  pub lead-not-late : ltZ (toZ w64 (ofZ w64 (toZ w64 r -ℤ toZ w64 s))) (pos 0) ≡ false → s ≤ r
+  lead-not-late e = ltb-false r s (sym late ∙ e)
 
   -- and else the difference
   module _ (h : s ≤ r) where

@@ -11,7 +11,7 @@ ghost use mathlib.Core.Path.{_≡_};
 ghost use mathlib.Core.Bool.{cond};
 ghost use Rattle.rounds.specs.declared.Event.the-variants.{Broadcast};
 ghost use Rattle.rounds.specs.Limits.{mostProcesses};
-ghost use Rattle.rounds.specs.Run.{Config};
+ghost use Rattle.rounds.specs.Config.{Config};
 ghost use Rattle.rounds.specs.Verdicts as Verdicts;
 ghost use Rattle.rounds.specs.Verdicts.{verdict, sendVerdict, firstRefusal};
 ghost use Rattle.words.specs.declared.Answer.the-variants.{Judged};

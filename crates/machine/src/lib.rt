@@ -26,7 +26,7 @@ pub use sending::send;
 pub use stepping::step;
 use words::Answer;
 ghost use mathlib.Core.Path.{_≡_};
-ghost use Rattle.rounds.specs.Run.{Config};
+ghost use Rattle.rounds.specs.Config.{Config};
 ghost use Rattle.rounds.specs.Verdicts as Verdicts;
 ghost use Rattle.words.specs.Spelled.{controlOf};
 ghost use Rattle.words.specs.Calls.{applied, answer};

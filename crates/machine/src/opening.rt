@@ -7,7 +7,7 @@ ghost use Prim.Native.Nat.{ℕ, _≤_, _<_};
 ghost use mathlib.Core.Path.{_≡_};
 ghost use lib.ListN.{length};
 ghost use Rattle.rounds.specs.Limits.{mostProcesses};
-ghost use Rattle.rounds.specs.Run.{opening, noRun};
+ghost use Rattle.rounds.specs.Config.{opening, noRun};
 ghost use Rattle.rounds.specs.Verdicts.{openVerdict};
 ghost use Rattle.rounds.specs.declared.Verdict.the-variants.{Accepted};
 ghost use Rattle.words.specs.Layout as Layout;

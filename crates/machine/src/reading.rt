@@ -7,7 +7,7 @@ use voting::Choice;
 use words::Standing;
 ghost use Prim.Native.Nat.{_<_};
 ghost use mathlib.Core.Path.{_≡_};
-ghost use Rattle.rounds.specs.Run.{Config};
+ghost use Rattle.rounds.specs.Config.{Config};
 ghost use Rattle.rounds.specs.Stages as Stages;
 ghost use Rattle.words.specs.Layout as Layout;
 ghost use Rattle.words.specs.Layout.{get, Head};

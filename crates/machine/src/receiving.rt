@@ -9,7 +9,7 @@ ghost use Prim.Native.Nat.{_<_};
 ghost use mathlib.Core.Path.{_≡_};
 ghost use Rattle.rounds.specs.declared.Event.the-variants.{Receive};
 ghost use Rattle.rounds.specs.Limits.{mostProcesses};
-ghost use Rattle.rounds.specs.Run.{Config};
+ghost use Rattle.rounds.specs.Config.{Config};
 ghost use Rattle.rounds.specs.Verdicts.{verdict};
 ghost use Rattle.words.specs.declared.Answer.the-variants.{Judged};
 ghost use Rattle.words.specs.Spelled.{controlOf};

@@ -12,7 +12,7 @@ ghost use Prim.Native.Nat.{suc};
 ghost use mathlib.Core.Path.{_≡_};
 ghost use Rattle.voting.specs.Tally as Tallies;
 ghost use Rattle.rounds.specs.declared.Event.the-variants.{Step};
-ghost use Rattle.rounds.specs.Run.{Config};
+ghost use Rattle.rounds.specs.Config.{Config};
 ghost use Rattle.rounds.specs.Verdicts.{verdict};
 ghost use Rattle.words.specs.Spelled.{controlOf};
 ghost use Rattle.words.specs.Calls as Calls;

@@ -12,7 +12,7 @@ use Rattle.rounds.specs.declared.Event.the-variants.{Send, Receive, Step
 use Rattle.rounds.specs.declared.Verdict.{Verdict}
 use Rattle.rounds.specs.declared.Verdict.the-variants.{Accepted, BadSize, NoProcess, AlreadySent, TooFarAhead, NothingInTransit, NotSentToAll, LastRound, TooManyEvents, WrongCount}
 use Rattle.rounds.specs.Limits.{mostProcesses, mostEvents}
-use Rattle.rounds.specs.Run.{Control}
+use Rattle.rounds.specs.Config.{Control}
 use Rattle.rounds.specs.Stages.{sentToAll}
 use Rattle.rounds.specs.Verdicts.{numberOf, accepted, refuse, openVerdict, outside, crowded, ahead, sendVerdict, receiveVerdict, stepVerdict, firstRefusal, verdict}
 use Rattle.rounds.specs.Allowed.{Opens, MaySend, Allowed}

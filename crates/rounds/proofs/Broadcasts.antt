@@ -8,7 +8,7 @@ use mathlib.Core.Logic.{⊎-elim}
 use mathlib.Core.Bool.{true}
 use Rattle.sets.specs.Sets.{has, with}
 use Rattle.sets.proofs.Membership.{with-own, with-kept, with-other}
-use Rattle.rounds.specs.Run.{Site, Control}
+use Rattle.rounds.specs.Config.{Site, Control}
 use Rattle.rounds.specs.Stages.{tick}
 use Rattle.rounds.specs.Verdicts.{sendVerdict}
 use Rattle.rounds.specs.Events.{sendControl, sendsControl}

@@ -9,7 +9,7 @@ use Rattle.rounds.specs.declared.Stage.{Stage}
 use Rattle.rounds.specs.declared.Stage.the-variants.{Sending, Collecting, Pending, Idle}
 use Rattle.rounds.specs.declared.Event.{Event}
 use Rattle.rounds.specs.declared.Event.the-variants.{Send, Receive, Step, Broadcast}
-use Rattle.rounds.specs.Run.{Control, Config}
+use Rattle.rounds.specs.Config.{Control, Config}
 use Rattle.rounds.specs.Stages.{stage, index, one, tick}
 use Rattle.rounds.specs.Verdicts.{accepted, verdict}
 use Rattle.rounds.specs.Events.{sendControl, receiveControl, stepControl, sendsControl, nextControl, ifAccepted, applyControl, apply}

@@ -16,20 +16,20 @@ use Rattle.rounds.specs.declared.Event.{Event}
 use Rattle.rounds.specs.declared.Event.the-variants.{Send, Step, Broadcast}
 use Rattle.rounds.specs.declared.Verdict.the-variants.{Accepted}
 use Rattle.rounds.specs.Limits.{window, lastRound, mostEvents}
-use Rattle.rounds.specs.Run.{Control, Content, Config, openControl, opening}
+use Rattle.rounds.specs.Config.{Control, Content, Config, openControl, opening}
 use Rattle.rounds.specs.Stages.{stage, tick}
 use Rattle.rounds.specs.Verdicts.{openVerdict, verdict}
 use Rattle.rounds.specs.Events.{sendControl, sendContent, gathered, messages, apply}
 use Rattle.rounds.specs.Runs.{after, verdicts, Report, reports, replay, replayVerdict, heeded, valueAt, nightVerdict, night, nightReports, sends}
 use Rattle.rounds.specs.Allowed.{Opens, Sends, Allowed}
-use Rattle.rounds.specs.Leads.{Leads, Reached}
+use Rattle.rounds.specs.Course.{Course, FromOpening}
 use Rattle.rounds.specs.Claims.{ran, Everyone, Live, Stop, Moment, Had, moments, times, total, Agree}
 use Rattle.rounds.proofs.Answers.{accepted-is, refused-is, opens-right, right-opens, allowed, allows}
-use Rattle.rounds.proofs.Leading.{reached}
+use Rattle.rounds.proofs.MadeOfThree.{run-course}
 use Rattle.rounds.proofs.Live.{written-once}
-use Rattle.rounds.proofs.Running.{apply-refused, broadcast-sends, broadcast-first, replay-whole, replay-stops, replay-heeded}
+use Rattle.rounds.proofs.After.{apply-refused, broadcast-sends, broadcast-first, replay-whole, replay-stops, replay-heeded}
 use Rattle.rounds.proofs.Effects.{posts-kept, posts-late}
-use Rattle.rounds.proofs.InRuns as run
+use Rattle.rounds.proofs.Throughout as throughout
 use Rattle.rounds.proofs.Independence.{same-control, same-verdicts, same-reports, same-holding}
 use Rattle.rounds.proofs.Nights.{same-verdict, same-night, same-told, same-held}
 
@@ -48,8 +48,8 @@ pub opened-exactly : (n given : ℕ) → (openVerdict n given ≡ Accepted) ↔ 
 opened-exactly n given = (λ a. opens-right n given (accepted-is (openVerdict n given) a), right-opens n given)
 
 -- every run is made of accepted sends, receives and steps, with the heard-of sets that its steps report
-pub made-of-three : (n : ℕ) (v : ℕ → ℕ) (es : List Event) → Reached n v (ran n v es .control) (ran n v es .content) (reports (opening n v) es)
-made-of-three = reached
+pub made-of-three : (n : ℕ) (v : ℕ → ℕ) (es : List Event) → FromOpening n v (ran n v es .control) (ran n v es .content) (reports (opening n v) es)
+made-of-three = run-course
 
 -- an accepted broadcast is its N sends
 pub broadcast-is-sends : (c : Config) (p : ℕ) → verdict (c .control) (Broadcast p) ≡ Accepted
@@ -76,11 +76,11 @@ replay-goes-so-far = replay-heeded
 -- ---- the counts and the stages
 -- each count is the number of accepted events just before which the process was at that stage
 pub counts-count : (n : ℕ) (v : ℕ → ℕ) (es : List Event) (p : ℕ) (s : Stage) → ran n v es .control .count p s ≡ times p s (moments (openControl n) es)
-counts-count = run.count-in
+counts-count = throughout.count-in
 
 -- the four counts of a process add up to the accepted events
 pub counts-add-up : (n : ℕ) (v : ℕ → ℕ) (es : List Event) (p : ℕ) → total (ran n v es .control .count p) ≡ ran n v es .control .events
-counts-add-up = run.total-in
+counts-add-up = throughout.total-in
 
 -- the stages are those of document 01's table: whichever line of it holds of a process, that is its stage
 pub record Table (n : ℕ) (c : Control) (p : ℕ) : Type 0 where
@@ -93,10 +93,10 @@ pub record Table (n : ℕ) (c : Control) (p : ℕ) : Type 0 where
 pub stages-table : (n : ℕ) (v : ℕ → ℕ) (es : List Event) (p : ℕ) → Table n (ran n v es .control) p
 stages-table n v es p =
     record {
-      sending = run.sending-in n v es p;
-      collecting = run.collecting-in n v es p;
-      pending = run.pending-in n v es p;
-      idle = run.idle-in n v es p;
+      sending = throughout.sending-in n v es p;
+      collecting = throughout.collecting-in n v es p;
+      pending = throughout.pending-in n v es p;
+      idle = throughout.idle-in n v es p;
     }
 
 -- ---- the limits
@@ -120,21 +120,21 @@ pub record InLimits (n : ℕ) (c : Control) : Type 0 where
 pub limits : (n : ℕ) (v : ℕ → ℕ) (es : List Event) → InLimits n (ran n v es .control)
 limits n v es =
     record {
-      lead = run.lead-in n v es;
-      spoken = run.spoken-in n v es;
-      near = run.near-in n v es;
-      rounds = run.rounds-in n v es;
-      events = run.events-in n v es;
-      sent = run.sent-in n v es;
-      heard = run.heard-in n v es;
-      transit = run.transit-in n v es;
-      reach = run.reach-in n v es;
-      own = run.own-in n v es;
+      lead = throughout.lead-in n v es;
+      spoken = throughout.spoken-in n v es;
+      near = throughout.near-in n v es;
+      rounds = throughout.rounds-in n v es;
+      events = throughout.events-in n v es;
+      sent = throughout.sent-in n v es;
+      heard = throughout.heard-in n v es;
+      transit = throughout.transit-in n v es;
+      reach = throughout.reach-in n v es;
+      own = throughout.own-in n v es;
     }
 
 pub reach-never-shrinks : (n : ℕ) (v : ℕ → ℕ) (es later : List Event) (p q : ℕ)
     → has (ran n v es .control .site p .reach) q ≡ true → has (ran n v (es ++ later) .control .site p .reach) q ≡ true
-reach-never-shrinks = run.reach-grows-in
+reach-never-shrinks = throughout.reach-grows-in
 
 -- ---- what a send puts in transit
 pub record Posts (c : Config) (p q : ℕ) : Type 0 where
@@ -161,7 +161,7 @@ pub record Faithful (n : ℕ) (v : ℕ → ℕ) (es : List Event) (x r y : ℕ) 
       × (ran n v es .control .carried x r y ≡ ran n v earlier .control .site y .reach)
 
 pub mail-is-true : (n : ℕ) (v : ℕ → ℕ) (es : List Event) (x r y : ℕ) → Live (ran n v es .control) x r y → Faithful n v es x r y
-mail-is-true n v es x r y l = record { sent = run.moment-in n v es x r y l; carries = run.mail-in n v es x r y l }
+mail-is-true n v es x r y l = record { sent = throughout.moment-in n v es x r y l; carries = throughout.mail-in n v es x r y l }
 
 -- so a step applies the rule to what those it heard had to say in that round, and its reach gains what theirs was then; said and knew are any
 -- functions that give this of those heard
@@ -173,16 +173,16 @@ pub step-goes-by-mail : (n : ℕ) (v : ℕ → ℕ) (es : List Event) (p : ℕ) 
     × (apply (ran n v es) (Step p) .control .site p .reach
     ≡ gathered (members n (ran n v es .control .site p .heard)) knew (ran n v es .control .site p .reach))
 step-goes-by-mail n v es p said knew had a =
-    (run.votes-in n v es p said knew had (accepted-is _ a), run.reaches-in n v es p said knew had (accepted-is _ a))
+    (throughout.votes-in n v es p said knew had (accepted-is _ a), throughout.reaches-in n v es p said knew had (accepted-is _ a))
 
 -- no message is written twice: while a message is live, its sender may not send it anew
 pub never-overwritten : (n : ℕ) (v : ℕ → ℕ) (es : List Event) (p q : ℕ)
     → Live (ran n v es .control) q (ran n v es .control .site p .round) p → Sends (ran n v es .control) p q → ⊥
-never-overwritten = run.not-live-in
+never-overwritten = throughout.not-live-in
 
--- and once p has sent to q, at all that this leads to p may not send to q before its next round
+-- and once p has sent to q, on every course from there p may not send to q before its next round
 pub never-sent-twice : (c : Control) (d : Content) {c₁ : Control} {d₁ : Content} {rs : List Report} (p q : ℕ)
-    → Leads (sendControl (tick c) p q) (sendContent c d p q) c₁ d₁ rs → c₁ .site p .round ≡ c .site p .round → Sends c₁ p q → ⊥
+    → Course (sendControl (tick c) p q) (sendContent c d p q) c₁ d₁ rs → c₁ .site p .round ≡ c .site p .round → Sends c₁ p q → ⊥
 never-sent-twice = written-once
 
 -- ================ Demand 3

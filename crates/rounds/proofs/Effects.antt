@@ -11,13 +11,13 @@ use Rattle.sets.proofs.Order.{members-in}
 use Rattle.voting.specs.declared.Message.{Message}
 use Rattle.voting.specs.Voting.{message, rule}
 use Rattle.rounds.specs.Limits.{window}
-use Rattle.rounds.specs.Run.{Site, Control, Content, Config}
+use Rattle.rounds.specs.Config.{Site, Control, Content, Config}
 use Rattle.rounds.specs.declared.Event.the-variants.{Send}
 use Rattle.rounds.specs.Stages.{tick}
 use Rattle.rounds.specs.Verdicts.{accepted, verdict}
 use Rattle.rounds.specs.Events.{timely, sendControl, sendContent, gathered, messages, heardBy, stepControl, stepContent, nextControl, nextContent, apply}
 use Rattle.rounds.proofs.Updates.{at-same, at₂-same, at₃-same}
-use Rattle.rounds.proofs.Running.{apply-accepted}
+use Rattle.rounds.proofs.After.{apply-accepted}
 
 -- ---- a send
 in-time : (r s : ℕ) → s ≤ r → r < s + window → timely r s ≡ true

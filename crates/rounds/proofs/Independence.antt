@@ -11,7 +11,7 @@ use Rattle.voting.specs.Voting.{opens, message, rule}
 use Rattle.rounds.specs.declared.Event.{Event}
 use Rattle.rounds.specs.declared.Event.the-variants.{Send, Receive, Step, Broadcast}
 use Rattle.rounds.specs.declared.Verdict.{Verdict}
-use Rattle.rounds.specs.Run.{Control, Content, at₃, openControl, openContent, opening}
+use Rattle.rounds.specs.Config.{Control, Content, at₃, openControl, openContent, opening}
 use Rattle.rounds.specs.Stages.{tick}
 use Rattle.rounds.specs.Verdicts.{accepted, verdict}
 use Rattle.rounds.specs.Events.{timely, sendControl, sendContent, receiveControl, gathered, messages, heardBy, stepControl, stepContent, sendsControl, sendsContent, nextControl, nextContent, ifAccepted, applyControl, applyContent, apply}
@@ -19,7 +19,7 @@ use Rattle.rounds.specs.Runs.{after, verdicts, Report, told, reports, re
 use Rattle.rounds.specs.Claims.{Agree}
 use Rattle.rounds.proofs.Updates.{at-one, at-all, at₃-all}
 use Rattle.rounds.proofs.Reach.{gathered-keeps}
-use Rattle.rounds.proofs.InRuns.{reach-grows-in}
+use Rattle.rounds.proofs.Throughout.{reach-grows-in}
 
 -- ---- the first half: no test and no control part looks at the content
 control-only : (c : Control) (d e : Content) (es : List Event)

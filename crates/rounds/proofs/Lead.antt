@@ -8,7 +8,7 @@ use mathlib.Core.Bool.{true}
 use Rattle.sets.specs.Sets.{has}
 use Rattle.sets.proofs.Membership.{with-cases, full-has, empty-none}
 use Rattle.rounds.specs.Limits.{window}
-use Rattle.rounds.specs.Run.{Site, Control, openControl}
+use Rattle.rounds.specs.Config.{Site, Control, openControl}
 use Rattle.rounds.specs.Stages.{tick}
 use Rattle.rounds.specs.Events.{sendControl, receiveControl, stepControl}
 use Rattle.rounds.specs.Allowed.{Sends, Steps}

@@ -6,7 +6,7 @@ pub mod NotAToy
 pub mod Updates
 pub mod Answers
 pub mod Broadcasts
-pub mod Leading
+pub mod MadeOfThree
 pub mod Kept
 pub mod Limits
 pub mod Lead
@@ -16,9 +16,9 @@ pub mod Live
 pub mod Mail
 pub mod Table
 pub mod Effects
-pub mod Running
+pub mod After
 pub mod Moments
 pub mod Recorded
-pub mod InRuns
+pub mod Throughout
 pub mod Independence
 pub mod Nights

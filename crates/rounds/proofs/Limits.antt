@@ -12,16 +12,16 @@ use Rattle.sets.specs.Sets.{empty, has}
 use Rattle.sets.proofs.Membership.{empty-none}
 use Rattle.sets.proofs.Bounds.{empty-below, with-below, without-below, union-below}
 use Rattle.rounds.specs.Limits.{window, lastRound, mostEvents}
-use Rattle.rounds.specs.Run.{Site, Control, Content, at₂, openControl}
+use Rattle.rounds.specs.Config.{Site, Control, Content, at₂, openControl}
 use Rattle.rounds.specs.Stages.{tick}
 use Rattle.rounds.specs.Events.{timely, sendControl, receiveControl, gathered, from, stepControl}
 use Rattle.rounds.specs.Runs.{Report}
-use Rattle.rounds.specs.Leads.{Leads}
+use Rattle.rounds.specs.Course.{Course}
 use Rattle.rounds.proofs.Updates.{at-one, at-both, at₂-one, at₃-one, cond-either}
 use Rattle.rounds.proofs.Kept.{Kept, kept}
 
 -- ---- the number of processes stays
-pub size-stays : {c₀ : Control} {d₀ : Content} {c : Control} {d : Content} {rs : List Report} → Leads c₀ d₀ c d rs → c .size ≡ c₀ .size
+pub size-stays : {c₀ : Control} {d₀ : Content} {c : Control} {d : Content} {rs : List Report} → Course c₀ d₀ c d rs → c .size ≡ c₀ .size
 unfolding sendControl receiveControl stepControl tick
 size-stays {c₀ = c₀} l =
     kept (λ c d. c .size ≡ c₀ .size)

@@ -9,12 +9,12 @@ use mathlib.Core.List.{List}
 use lib.Dec.{ltb}
 use Rattle.sets.specs.Sets.{empty, has}
 use Rattle.sets.proofs.Membership.{with-cases, with-own, with-kept, without-was, empty-none}
-use Rattle.rounds.specs.Run.{Site, Control, Content, openControl}
+use Rattle.rounds.specs.Config.{Site, Control, Content, openControl}
 use Rattle.rounds.specs.Stages.{tick}
 use Rattle.rounds.specs.Events.{timely, sendControl, sendContent, receiveControl, from, stepControl}
 use Rattle.rounds.specs.Runs.{Report}
 use Rattle.rounds.specs.Allowed.{Sends, Receives}
-use Rattle.rounds.specs.Leads.{Leads}
+use Rattle.rounds.specs.Course.{Course}
 use Rattle.rounds.specs.Claims.{Live}
 use Rattle.rounds.specs.Claims.Live.{waiting, taken}
 use Rattle.rounds.proofs.Updates.{at-one, at-same, at₂-one, cond-either}
@@ -112,9 +112,9 @@ sent-now : (c : Control) (p q : ℕ) → Sent q (c .site p .round) (sendControl 
 unfolding sendControl tick
 sent-now c p q = rw (at-same (c .site) p _) (omega arith, λ e. with-own _ q)
 
--- so after p has sent to q, at all that this leads to it may not send to q again before its next round
+-- so after p has sent to q, on every course from there it may not send to q again before its next round
 pub written-once : (c : Control) (d : Content) {c₁ : Control} {d₁ : Content} {rs : List Report} (p q : ℕ)
-    → Leads (sendControl (tick c) p q) (sendContent c d p q) c₁ d₁ rs → c₁ .site p .round ≡ c .site p .round → Sends c₁ p q → ⊥
+    → Course (sendControl (tick c) p q) (sendContent c d p q) c₁ d₁ rs → c₁ .site p .round ≡ c .site p .round → Sends c₁ p q → ⊥
 written-once c d p q l e h = true≢false (sym (kept _ (sent-kept q (c .site p .round) p) l (sent-now c p q) .1 (sym e)) ∙ h .may .unsent)
 
 -- ---- a live message is one that its sender has sent

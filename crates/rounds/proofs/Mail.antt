@@ -9,12 +9,12 @@ use mathlib.Core.List.{List}
 use Rattle.voting.specs.declared.Message.{Message}
 use Rattle.voting.specs.declared.Holding.{Holding}
 use Rattle.voting.specs.Voting.{message}
-use Rattle.rounds.specs.Run.{Site, Control, Content, at₃}
+use Rattle.rounds.specs.Config.{Site, Control, Content, at₃}
 use Rattle.rounds.specs.Stages.{tick}
 use Rattle.rounds.specs.Events.{timely, sendControl, sendContent, receiveControl, stepControl, stepContent}
 use Rattle.rounds.specs.Runs.{Report}
 use Rattle.rounds.specs.Allowed.{Receives}
-use Rattle.rounds.specs.Leads.{Leads, Reached}
+use Rattle.rounds.specs.Course.{Course, FromOpening}
 use Rattle.rounds.specs.Claims.{Live}
 use Rattle.rounds.proofs.Updates.{at-one, at-both, at₃-each-both}
 use Rattle.rounds.proofs.Kept.{Kept, kept}
@@ -94,13 +94,13 @@ fresh-kept =
       step = λ c d p h k. (spoken-kept .step c d p h (k .0), step-fresh c d p (k .0) (k .1));
     }
 
-pub spoken-fresh : (n : ℕ) (v : ℕ → ℕ) {c : Control} {d : Content} {rs : List Report} → Reached n v c d rs → Spoken c × Fresh c d
+pub spoken-fresh : (n : ℕ) (v : ℕ → ℕ) {c : Control} {d : Content} {rs : List Report} → FromOpening n v c d rs → Spoken c × Fresh c d
 spoken-fresh n v l =
     kept _ fresh-kept l ((λ x r y m. absurd (open-silent n x r y m)), (λ x r y m. absurd (open-silent n x r y m)))
 
 -- ---- ever after: what y held in the round r is what the live messages that it sent for r carry
 module _ (y r : ℕ) (h : Holding) (s : ℕ) where
-  -- the round is reached, and while it lasts this is held
+  -- it has come to the round, and while it lasts this is held
   abbrev Holds : Site → Holding → Type 0
   Holds site holding = (r ≤ site .round) × (site .round ≡ r → (holding ≡ h) × (site .reach ≡ s))
 
@@ -149,14 +149,14 @@ module _ (y r : ℕ) (h : Holding) (s : ℕ) where
 
 -- a live message for the round r carries what its sender held at a moment, any moment, at which it was in that round
 pub mail-true : (n : ℕ) (v : ℕ → ℕ) {c₁ : Control} {d₁ : Content} {rs₁ : List Report} {c : Control} {d : Content} {rs : List Report}
-    → Reached n v c₁ d₁ rs₁ → Leads c₁ d₁ c d rs → (x y : ℕ) → Live c x (c₁ .site y .round) y
+    → FromOpening n v c₁ d₁ rs₁ → Course c₁ d₁ c d rs → (x y : ℕ) → Live c x (c₁ .site y .round) y
     → (d .mail x (c₁ .site y .round) y ≡ message (d₁ .holding y)) × (c .carried x (c₁ .site y .round) y ≡ c₁ .site y .reach)
-mail-true n v {c₁ = c₁} {d₁ = d₁} reached leads x y l =
-    kept (Since y (c₁ .site y .round) (d₁ .holding y) (c₁ .site y .reach)) (since-kept _ _ _ _) leads
+mail-true n v {c₁ = c₁} {d₁ = d₁} opened course x y l =
+    kept (Since y (c₁ .site y .round) (d₁ .holding y) (c₁ .site y .reach)) (since-kept _ _ _ _) course
     (record { holds = (omega arith, λ e. (refl, refl)); says = now })
     .says x (c₁ .site y .round) y l refl refl
   where
     now : Claim (Says y (c₁ .site y .round) (d₁ .holding y) (c₁ .site y .reach)) c₁ d₁
     now x′ r y′ m e f =
         subst (λ (z : ℕ). (d₁ .mail x′ r y′ ≡ message (d₁ .holding z)) × (c₁ .carried x′ r y′ ≡ c₁ .site z .reach)) e
-        (spoken-fresh n v reached .1 x′ r y′ m (f ∙ ap (λ (z : ℕ). c₁ .site z .round) (sym e)))
+        (spoken-fresh n v opened .1 x′ r y′ m (f ∙ ap (λ (z : ℕ). c₁ .site z .round) (sym e)))

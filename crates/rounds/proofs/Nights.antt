@@ -5,12 +5,12 @@ use mathlib.Core.Bool.{Bool, true, false, cond}
 use mathlib.Core.List.{List, [], _∷_, _++_}
 use lib.ListN.{length}
 use Rattle.rounds.specs.declared.Event.{Event}
-use Rattle.rounds.specs.Run.{Control, Config, openControl, opening, noRun}
+use Rattle.rounds.specs.Config.{Control, Config, openControl, opening, noRun}
 use Rattle.rounds.specs.Verdicts.{accepted, openVerdict, verdict}
 use Rattle.rounds.specs.Events.{ifAccepted, applyControl}
 use Rattle.rounds.specs.Runs.{after, replay, heeded, valueAt, nightVerdict, night, nightReports}
 use Rattle.rounds.specs.Claims.{Agree}
-use Rattle.rounds.proofs.Running.{replay-heeded}
+use Rattle.rounds.proofs.After.{replay-heeded}
 use Rattle.rounds.proofs.Independence.{same-control, same-replay, same-reports, same-holding}
 
 -- ---- a replay of more events heeds these, and perhaps some more

@@ -11,7 +11,7 @@ use Rattle.sets.proofs.Membership.{with-own, without-own}
 use Rattle.rounds.specs.declared.Event.{Event}
 use Rattle.rounds.specs.declared.Event.the-variants.{Send, Receive, Step, Broadcast}
 use Rattle.rounds.specs.declared.Verdict.the-variants.{Accepted}
-use Rattle.rounds.specs.Run.{Site, Control, Config, opening}
+use Rattle.rounds.specs.Config.{Site, Control, Config, opening}
 use Rattle.rounds.specs.Stages.{tick}
 use Rattle.rounds.specs.Verdicts.{verdict}
 use Rattle.rounds.specs.Events.{receiveControl, stepControl, nextControl, apply}
@@ -21,7 +21,7 @@ use Rattle.rounds.specs.Examples.{run, waits, sevenAndFour, trace1}
 use Rattle.rounds.proofs.Updates.{at-same, at₂-same}
 use Rattle.rounds.proofs.Answers.{accepted-is, allowed}
 use Rattle.rounds.proofs.Broadcasts.{send-sent, sends-sent}
-use Rattle.rounds.proofs.Running.{apply-accepted}
+use Rattle.rounds.proofs.After.{apply-accepted}
 
 -- it does not refuse everything
 pub not-refusing : ((c : Control) (e : Event) → verdict c e ≡ Accepted → ⊥) → ⊥

@@ -6,11 +6,11 @@ use mathlib.Core.Bool.{true}
 use mathlib.Core.List.{List, [], _∷_}
 use Rattle.sets.specs.Sets.{has, union}
 use Rattle.sets.proofs.Membership.{in-left, with-own}
-use Rattle.rounds.specs.Run.{Control, Content, openControl}
+use Rattle.rounds.specs.Config.{Control, Content, openControl}
 use Rattle.rounds.specs.Stages.{tick}
 use Rattle.rounds.specs.Events.{sendControl, receiveControl, gathered, stepControl}
 use Rattle.rounds.specs.Runs.{Report}
-use Rattle.rounds.specs.Leads.{Leads, Reached}
+use Rattle.rounds.specs.Course.{Course, FromOpening}
 use Rattle.rounds.proofs.Updates.{at-one}
 use Rattle.rounds.proofs.Kept.{Kept, kept}
 
@@ -34,10 +34,10 @@ grows c₀ =
           at-one (λ x s. Inside (c₀ .site x .reach) (s .reach)) (c .site) p _ (λ y t. gathered-keeps _ _ _ y (k p y t)) k;
     }
 
-pub reach-grows : {c₀ : Control} {d₀ : Content} {c : Control} {d : Content} {rs : List Report} → Leads c₀ d₀ c d rs
+pub reach-grows : {c₀ : Control} {d₀ : Content} {c : Control} {d : Content} {rs : List Report} → Course c₀ d₀ c d rs
     → (x : ℕ) → Inside (c₀ .site x .reach) (c .site x .reach)
 reach-grows {c₀ = c₀} l = kept _ (grows c₀) l (λ x y t. t)
 
-pub own-reach : (n : ℕ) (v : ℕ → ℕ) {c : Control} {d : Content} {rs : List Report} → Reached n v c d rs → (x : ℕ) → has (c .site x .reach) x ≡ true
+pub own-reach : (n : ℕ) (v : ℕ → ℕ) {c : Control} {d : Content} {rs : List Report} → FromOpening n v c d rs → (x : ℕ) → has (c .site x .reach) x ≡ true
 unfolding openControl
 own-reach n v l x = reach-grows l x x (with-own _ x)

@@ -1,19 +1,19 @@
--- What a configuration leads to is what it is after some list of events: so what an opening leads to is a run, and nothing else.
+-- The end of a course is what its beginning is after some list of events: so the end of a course from an opening is a run, and nothing else.
 -- Assumes nothing.
 use mathlib.Core.Path.{_≡_, refl, ap, _∙_}
 use mathlib.Core.List.{List, [], _∷_, _++_}
 use Rattle.rounds.specs.declared.Event.{Event}
 use Rattle.rounds.specs.declared.Event.the-variants.{Send, Receive, Step}
-use Rattle.rounds.specs.Run.{Control, Content, Config}
+use Rattle.rounds.specs.Config.{Control, Content, Config}
 use Rattle.rounds.specs.Events.{nextControl, nextContent, apply}
 use Rattle.rounds.specs.Runs.{after, Report}
 use Rattle.rounds.specs.Allowed.{Allowed}
-use Rattle.rounds.specs.Leads.{Leads}
-use Rattle.rounds.specs.Leads.Leads.{stays, sends, receives, steps}
+use Rattle.rounds.specs.Course.{Course}
+use Rattle.rounds.specs.Course.Course.{stays, sends, receives, steps}
 use Rattle.rounds.proofs.Answers.{accepted-is, allows}
-use Rattle.rounds.proofs.Running.{after-append, apply-accepted}
+use Rattle.rounds.proofs.After.{after-append, apply-accepted}
 
--- some events lead from the one configuration to the other
+-- the one configuration after some events is the other
 pub record Recorded (c₀ : Config) (c : Config) : Type 0 where
   pub events : List Event
   pub ends : after c₀ events ≡ c
@@ -31,7 +31,7 @@ more c₀ c e r h =
           ∙ apply-accepted c e (accepted-is _ (allows (c .control) e h));
     }
 
-pub recorded : (c₀ : Control) (d₀ : Content) {c : Control} {d : Content} {rs : List Report} → Leads c₀ d₀ c d rs
+pub recorded : (c₀ : Control) (d₀ : Content) {c : Control} {d : Content} {rs : List Report} → Course c₀ d₀ c d rs
     → Recorded (record { control = c₀; content = d₀ }) (record { control = c; content = d })
 unfolding after nextControl nextContent
 recorded c₀ d₀ stays = record { events = []; ends = refl }

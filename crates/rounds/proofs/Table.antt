@@ -10,7 +10,7 @@ use Rattle.sets.specs.Sets.{empty, has, with, full}
 use Rattle.sets.proofs.Membership.{with-cases, without-own, without-was, empty-none, full-has}
 use Rattle.sets.proofs.Bounds.{full-only, empty-only}
 use Rattle.rounds.specs.declared.Stage.the-variants.{Sending, Collecting, Pending, Idle}
-use Rattle.rounds.specs.Run.{Control, at₂, openControl}
+use Rattle.rounds.specs.Config.{Control, at₂, openControl}
 use Rattle.rounds.specs.Stages.{sentToAll, heardFromAll, waited, stage, tick}
 use Rattle.rounds.specs.Events.{timely, sendControl, receiveControl, stepControl}
 use Rattle.rounds.specs.Allowed.{Sends}

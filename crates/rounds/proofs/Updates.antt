@@ -5,7 +5,7 @@ use mathlib.Core.Path.{_≡_, refl, sym, ap, _∙_, subst}
 use mathlib.Core.Bool.{Bool, true, false, cond}
 use lib.Dec.{eqb}
 use borrow.Author.Tests.{eqb-true, eqb-false, eq-eqb, ne-eqb}
-use Rattle.rounds.specs.Run.{at, at₂, at₃}
+use Rattle.rounds.specs.Config.{at, at₂, at₃}
 
 -- ---- three functions changed at the same place, where an old entry is known to be another one
 module _ {A B C : Type 0} (P : ℕ → A → B → C → Type 0) (f : ℕ → A) (g : ℕ → B) (h : ℕ → C) (p : ℕ) (a : A) (b : B) (c : C) where

@@ -7,7 +7,7 @@ use Rattle.sets.specs.Sets.{has, full}
 use Rattle.rounds.specs.declared.Event.{Event}
 use Rattle.rounds.specs.declared.Event.the-variants.{Send, Receive, Step, Broadcast}
 use Rattle.rounds.specs.Limits.{mostProcesses, window, lastRound, mostEvents}
-use Rattle.rounds.specs.Run.{Control}
+use Rattle.rounds.specs.Config.{Control}
 
 -- a run of n processes opens with this many values
 pub record Opens (n given : ℕ) : Type 0 where

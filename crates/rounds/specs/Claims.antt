@@ -12,7 +12,7 @@ use Rattle.rounds.specs.declared.Stage.the-variants.{Sending, Collecting
 use Rattle.rounds.specs.declared.Event.{Event}
 use Rattle.rounds.specs.declared.Event.the-variants.{Send, Receive, Step, Broadcast}
 use Rattle.rounds.specs.declared.Verdict.the-variants.{Accepted}
-use Rattle.rounds.specs.Run.{Control, Config, opening}
+use Rattle.rounds.specs.Config.{Control, Config, opening}
 use Rattle.rounds.specs.Stages.{stage, one}
 use Rattle.rounds.specs.Verdicts.{verdict}
 use Rattle.rounds.specs.Events.{sendsControl, ifAccepted, applyControl}

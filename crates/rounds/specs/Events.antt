@@ -11,7 +11,7 @@ use Rattle.rounds.specs.declared.Event.{Event}
 use Rattle.rounds.specs.declared.Event.the-variants.{Send, Receive, Step, Broadcast}
 use Rattle.rounds.specs.declared.Verdict.{Verdict}
 use Rattle.rounds.specs.Limits.{window}
-use Rattle.rounds.specs.Run.{Control, Content, Config, at, at₂, at₃}
+use Rattle.rounds.specs.Config.{Control, Content, Config, at, at₂, at₃}
 use Rattle.rounds.specs.Stages.{tick}
 use Rattle.rounds.specs.Verdicts.{accepted, verdict}
 

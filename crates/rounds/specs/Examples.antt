@@ -13,7 +13,7 @@ use Rattle.rounds.specs.declared.Stage.the-variants.{Sending, Collecting
 use Rattle.rounds.specs.declared.Event.{Event}
 use Rattle.rounds.specs.declared.Event.the-variants.{Send, Receive, Step, Broadcast}
 use Rattle.rounds.specs.declared.Verdict.{Verdict}
-use Rattle.rounds.specs.Run.{Control, Config, at, at₂, at₃, openControl, openContent, opening}
+use Rattle.rounds.specs.Config.{Control, Config, at, at₂, at₃, openControl, openContent, opening}
 use Rattle.rounds.specs.Stages.{sentToAll, heardFromAll, waited, stage, index, one, tick}
 use Rattle.rounds.specs.Verdicts.{numberOf, accepted, refuse, outside, crowded, ahead, sendVerdict, receiveVerdict, stepVerdict, firstRefusal, verdict, number}
 use Rattle.rounds.specs.Events.{timely, sendControl, sendContent, receiveControl, gathered, messages, heardBy, from, stepControl, stepContent, sendsControl, sendsContent, nextControl, nextContent, ifAccepted, applyControl, applyContent, apply}

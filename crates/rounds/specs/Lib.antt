@@ -1,11 +1,11 @@
 -- The round machine, in the order a reader needs it; then what the statements about it speak of.
 pub mod Limits
-pub mod Run
+pub mod Config
 pub mod Stages
 pub mod Verdicts
 pub mod Events
 pub mod Runs
 pub mod Allowed
-pub mod Leads
+pub mod Course
 pub mod Claims
 pub mod Examples

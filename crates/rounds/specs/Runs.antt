@@ -7,7 +7,7 @@ use Rattle.rounds.specs.declared.Event.{Event}
 use Rattle.rounds.specs.declared.Event.the-variants.{Send, Receive, Step, Broadcast}
 use Rattle.rounds.specs.declared.Verdict.{Verdict}
 use Rattle.rounds.specs.declared.Verdict.the-variants.{Accepted}
-use Rattle.rounds.specs.Run.{Control, Config, openControl, opening, noRun}
+use Rattle.rounds.specs.Config.{Control, Config, openControl, opening, noRun}
 use Rattle.rounds.specs.Verdicts.{openVerdict, verdict}
 use Rattle.rounds.specs.Events.{ifAccepted, applyControl, apply}
 

@@ -6,7 +6,7 @@ use lib.Dec.{eqb}
 use Rattle.sets.specs.Sets.{empty, full}
 use Rattle.rounds.specs.declared.Stage.{Stage}
 use Rattle.rounds.specs.declared.Stage.the-variants.{Sending, Collecting, Pending, Idle}
-use Rattle.rounds.specs.Run.{Control}
+use Rattle.rounds.specs.Config.{Control}
 
 unfoldable pub sentToAll : Control → ℕ → Bool
 sentToAll c p = eqb (c .site p .sent) (full (c .size))

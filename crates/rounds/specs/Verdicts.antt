@@ -9,7 +9,7 @@ use Rattle.rounds.specs.declared.Event.the-variants.{Send, Receive, Step
 use Rattle.rounds.specs.declared.Verdict.{Verdict}
 use Rattle.rounds.specs.declared.Verdict.the-variants.{Accepted, BadSize, NoProcess, AlreadySent, TooFarAhead, NothingInTransit, NotSentToAll, LastRound, TooManyEvents, WrongCount}
 use Rattle.rounds.specs.Limits.{mostProcesses, window, lastRound, mostEvents}
-use Rattle.rounds.specs.Run.{Control}
+use Rattle.rounds.specs.Config.{Control}
 use Rattle.rounds.specs.Stages.{sentToAll}
 
 -- the numbers of document 01

@@ -32,7 +32,7 @@ given-up w used a b l = (l, λ e. (let q : _≡_ {A = ℕ} 0 1 = cc in omega ari
 pub not-input : (w : List ℕ) (used : ℕ) → used ≤ length w → (used ≤ length w) × (Nothing ≡ Input → length w < used + longest)
 not-input w used l = (l, λ e. (let q : _≡_ {A = ℕ} 0 1 = cc in omega arith))
 
--- ---- in a window, from a place on
+-- ---- in the bytes at hand, from a place on
 module _ (w : List ℕ) (at u : ℕ) (l : at ≤ length w) where
   pub within : u ≤ length (take (length w - at) (drop at w)) → at + u ≤ length w
   within h = let r = rw rest at h in omega (arith, r, length-drop at w)

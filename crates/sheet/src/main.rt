@@ -28,13 +28,13 @@ struct Seat {
 }
 
 // One piece, written out. Where that fails, nothing more is wanted.
-fn print(run: &mut [u32; RUN], stand: Stand, window: &[u8], last: bool, out: &mut [u8]) -> Piece
+fn print(run: &mut [u32; RUN], stand: Stand, bytes: &[u8], last: bool, out: &mut [u8]) -> Piece
     requires { ⌜ lineRoom ≤ length (now out) ⌝ }
-    ensures { λ r. ⌜ (r .used ≤ length (now (window .entry)))
-        × (r .wants ≡ Wants.Input → length (now (window .entry)) < r .used + longest)
-        × (r .wants ≡ Wants.Room → ahead (r .stand) (now (run .exit)) (drop (r .used) (now (window .entry))) < ahead stand (now (run .entry)) (now (window .entry))) ⌝ }
+    ensures { λ r. ⌜ (r .used ≤ length (now (bytes .entry)))
+        × (r .wants ≡ Wants.Input → length (now (bytes .entry)) < r .used + longest)
+        × (r .wants ≡ Wants.Room → ahead (r .stand) (now (run .exit)) (drop (r .used) (now (bytes .entry))) < ahead stand (now (run .entry)) (now (bytes .entry))) ⌝ }
 {
-    let p = sheet_text::write(run, stand, window, last, out);
+    let p = sheet_text::write(run, stand, bytes, last, out);
     let n = p.written;
     if io::write_all(STDOUT_FILENO, &out[..n]) {
         return p;
@@ -49,15 +49,15 @@ fn print(run: &mut [u32; RUN], stand: Stand, window: &[u8], last: bool, out: &mu
     }
 }
 
-// All pieces of a window, until more of the trace is wanted or nothing.
-fn print_all(run: &mut [u32; RUN], stand: Stand, window: &[u8], last: bool, out: &mut [u8]) -> Piece
+// All pieces of the bytes at hand, until more of the trace is wanted or nothing.
+fn print_all(run: &mut [u32; RUN], stand: Stand, bytes: &[u8], last: bool, out: &mut [u8]) -> Piece
     requires { ⌜ lineRoom ≤ length (now out) ⌝ }
-    ensures { λ r. ⌜ (r .used ≤ length (now (window .entry))) × (r .wants ≡ Wants.Input → length (now (window .entry)) < r .used + longest) ⌝ }
+    ensures { λ r. ⌜ (r .used ≤ length (now (bytes .entry))) × (r .wants ≡ Wants.Input → length (now (bytes .entry)) < r .used + longest) ⌝ }
 {
     let mut used: usize = 0;
     let mut here = stand;
     loop {
-        let p = print(&mut *run, here, &window[used..], last, out);
+        let p = print(&mut *run, here, &bytes[used..], last, out);
         used += p.used;
         here = p.stand;
         let wants = p.wants;

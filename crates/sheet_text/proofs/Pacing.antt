@@ -228,7 +228,7 @@ none-shut out m number k =
     let e : length out - 0 ≡ length out = omega arith in
     record { room = omega arith; text = []; wrote = wrote-none; part = rw e (adds-none (closing (length out) (closingCount m - k) number k m)) }
 
--- it uses no byte of a window, and never waits for input
+-- it uses no byte of the bytes at hand, and never waits for input
 closing-other : (j room number k : ℕ) (m : Mem) → closing room j number k m .wants ≡ wants.Input → ⊥
 unfolding closing rests adds
 closing-other zero room number k m = not-nothing
@@ -241,10 +241,10 @@ closing-other (suc j) room number k m = go (ltb room lineRoom) (closing-other j 
     go true h = not-room
     go false h = h
 
-pub any-window : {w out : List ℕ} {p : Piece} {m′ out′ : List ℕ} (j room number k : ℕ) (m : Mem) → Came (closing room j number k m) [] out p m′ out′
+pub any-bytes : {w out : List ℕ} {p : Piece} {m′ out′ : List ℕ} (j room number k : ℕ) (m : Mem) → Came (closing room j number k m) [] out p m′ out′
     → Came (closing room j number k m) w out p m′ out′
 unfolding said
-any-window j room number k m h =
+any-bytes j room number k m h =
     record {
       says = h .says;
       words = h .words;

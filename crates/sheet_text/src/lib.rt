@@ -1,4 +1,4 @@
-// The sheet of a trace as text, in pieces: each reads whole records from a window of the trace and writes lines into a lent buffer, as long as there is
+// The sheet of a trace as text, in pieces: each reads whole records from bytes of the trace at hand and writes lines into a lent buffer, as long as there is
 // room for one more. However the trace is cut into windows and whatever the room, the pieces add up to the sheet.
 mod text;
 
@@ -45,9 +45,9 @@ fn put_told(out: &mut [u8], at: usize, t: Told) -> usize
 }
 
 // While the trace is read: its whole records, and the line of each accepted step.
-fn follow(run: &mut [u32; RUN], place: Place, window: &[u8], last: bool, out: &mut [u8]) -> Piece
-    ensures { λ r. ⌜ Came (Pieces.follow last (length (now (out .entry))) 0 place (now (run .entry)) (now (window .entry)))
-        (now (window .entry)) (now (out .entry)) r (now (run .exit)) (now (out .exit)) ⌝ }
+fn follow(run: &mut [u32; RUN], place: Place, bytes: &[u8], last: bool, out: &mut [u8]) -> Piece
+    ensures { λ r. ⌜ Came (Pieces.follow last (length (now (out .entry))) 0 place (now (run .entry)) (now (bytes .entry)))
+        (now (bytes .entry)) (now (out .entry)) r (now (run .exit)) (now (out .exit)) ⌝ }
 {
     let mut used: usize = 0;
     let mut written: usize = 0;
@@ -61,9 +61,9 @@ fn follow(run: &mut [u32; RUN], place: Place, window: &[u8], last: bool, out: &m
                 wants: Wants::Room,
             };
         }
-        let swift = trace::hasten(&mut *run, &window[used..], here);
-        used += swift;
-        let t = trace::one_record(&mut *run, &window[used..], here);
+        let hasty = trace::hasten(&mut *run, &bytes[used..], here);
+        used += hasty;
+        let t = trace::one_record(&mut *run, &bytes[used..], here);
         match t {
             Turn::More => {
                 if last {
@@ -141,13 +141,13 @@ fn close(run: &[u32; RUN], number: u32, from: u8, out: &mut [u8]) -> Piece
     }
 }
 
-// One piece: what is written of the sheet where it stands, from a window of the trace, which may be called the last, and with the room that out has.
-pub fn write(run: &mut [u32; RUN], stand: Stand, window: &[u8], last: bool, out: &mut [u8]) -> Piece
-    ensures { λ r. ⌜ Came (Pieces.piece last (length (now (out .entry))) stand (now (run .entry)) (now (window .entry)))
-        (now (window .entry)) (now (out .entry)) r (now (run .exit)) (now (out .exit)) ⌝ }
+// One piece: what is written of the sheet where it stands, from bytes of the trace at hand, which may be called the last, and with the room that out has.
+pub fn write(run: &mut [u32; RUN], stand: Stand, bytes: &[u8], last: bool, out: &mut [u8]) -> Piece
+    ensures { λ r. ⌜ Came (Pieces.piece last (length (now (out .entry))) stand (now (run .entry)) (now (bytes .entry)))
+        (now (bytes .entry)) (now (out .entry)) r (now (run .exit)) (now (out .exit)) ⌝ }
 {
     match stand {
-        Stand::Reads(place) => follow(run, place, window, last, out),
+        Stand::Reads(place) => follow(run, place, bytes, last, out),
         Stand::Closes(number, k) => close(&*run, number, k, out),
     }
 }

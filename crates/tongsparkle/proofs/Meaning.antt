@@ -8,7 +8,7 @@ use borrow.Author.Tests.{lt-ltb, le-ltb}
 use lib.ListN.{length}
 use lib.Seq.{sets}
 use Rattle.sets.proofs.Determined.{determined}
-use Rattle.rounds.specs.Run.{Config}
+use Rattle.rounds.specs.Config.{Config}
 use Rattle.words.specs.Layout.{Mem}
 use Rattle.words.specs.Spelled.{people}
 use Rattle.words.specs.Calls.{standingOf}

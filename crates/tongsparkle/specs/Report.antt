@@ -6,7 +6,7 @@ use lib.Dec.{ltb}
 use lib.ListN.{length}
 use Rattle.rounds.specs.declared.Stage.the-variants.{Sending, Collecting, Pending, Idle}
 use Rattle.rounds.specs.Limits.{mostProcesses}
-use Rattle.rounds.specs.Run.{Control}
+use Rattle.rounds.specs.Config.{Control}
 use Rattle.words.specs.declared.Standing.{Standing}
 use Rattle.records.specs.Stored.{over}
 use Rattle.trace.specs.Outcome.{endingNumber, outcome}

@@ -26,7 +26,7 @@ use Rattle.records.proofs.Rest.{rest}
 use Rattle.trace.specs.declared.Told.the-variants.{Nothing}
 use Rattle.trace.specs.declared.Turn.the-variants.{Goes}
 use Rattle.trace.specs.Turns.{onAnswer, tells, turnOn, wordsOn, turn, turned}
-use Rattle.trace.specs.Haste.{swiftExtent, headIs, swift, goes, left, Haste, stays, further, hasteBehind, haste}
+use Rattle.trace.specs.Haste.{hastyExtent, headIs, hasty, goes, left, Haste, stays, further, hasteBehind, haste}
 use Rattle.trace.proofs.Turning.{ahead, goes-ahead}
 
 -- ---- what stands at the head is the record that is read there
@@ -47,7 +47,7 @@ headed-by tag w e =
     let two = both (eqb (getD w 1 0) 0) _ (one .1) in
     record { first = eqb-true _ _ (one .0); second = eqb-true _ _ (two .0); third = eqb-true _ _ (two .1) }
 
-module _ (w : List ℕ) (long : swiftExtent ≤ length w) where
+module _ (w : List ℕ) (long : hastyExtent ≤ length w) where
   behind : (i : ℕ) → i < 2 → getD (take 2 (drop 3 w)) i 0 ≡ getD w (3 + i) 0
   behind i l = getD-take 2 (drop 3 w) i 0 l ∙ getD-drop 3 w i 0
 
@@ -65,23 +65,23 @@ module _ (w : List ℕ) (long : swiftExtent ≤ length w) where
       rw (le-ltb (length w) 3 (omega arith), h .first, h .second, h .third, enough, behind 0 (omega arith), behind 1 (omega arith))
 
 -- ---- so where it is accepted, the turn goes over its bytes and tells nothing
-record Swiftly (m : Mem) (w : List ℕ) (r : Record) : Type 0 where
-  turns : turn Later (controlOf m) w ≡ Goes swiftExtent Later Nothing
+record Hasty (m : Mem) (w : List ℕ) (r : Record) : Type 0 where
+  turns : turn Later (controlOf m) w ≡ Goes hastyExtent Later Nothing
   words : turned Later m w ≡ left m r
 
 module _ (m : Mem) (w : List ℕ) where
-  sent : (p q : ℕ) → parse Later w ≡ Happens (Send p q) → accepted (verdict (controlOf m) (Send p q)) ≡ true → Swiftly m w (Happens (Send p q))
+  sent : (p q : ℕ) → parse Later w ≡ Happens (Send p q) → accepted (verdict (controlOf m) (Send p q)) ≡ true → Hasty m w (Happens (Send p q))
   unfolding turn turned turnOn wordsOn onAnswer answer verdictOf tells extent eventExtent ifAccepted left
   sent p q e a = record { turns = rw (e, a); words = rw e }
 
   received : (p q : ℕ) → parse Later w ≡ Happens (Receive p q) → accepted (verdict (controlOf m) (Receive p q)) ≡ true
-      → Swiftly m w (Happens (Receive p q))
+      → Hasty m w (Happens (Receive p q))
   unfolding turn turned turnOn wordsOn onAnswer answer verdictOf tells extent eventExtent ifAccepted left
   received p q e a = record { turns = rw (e, a); words = rw e }
 
-  swiftly : goes (controlOf m) (swift w) ≡ true → Swiftly m w (swift w)
-  unfolding swift goes
-  swiftly = go (ltb (length w) swiftExtent) refl (headIs 16 w) refl (headIs 17 w) refl
+  in-haste : goes (controlOf m) (hasty w) ≡ true → Hasty m w (hasty w)
+  unfolding hasty goes
+  in-haste = go (ltb (length w) hastyExtent) refl (headIs 16 w) refl (headIs 17 w) refl
     where
       p : ℕ
       p = getD w 3 0
@@ -89,9 +89,9 @@ module _ (m : Mem) (w : List ℕ) where
       q : ℕ
       q = getD w 4 0
 
-      go : (a : Bool) → ltb (length w) swiftExtent ≡ a → (b : Bool) → headIs 16 w ≡ b → (d : Bool) → headIs 17 w ≡ d
+      go : (a : Bool) → ltb (length w) hastyExtent ≡ a → (b : Bool) → headIs 16 w ≡ b → (d : Bool) → headIs 17 w ≡ d
           → goes (controlOf m) (cond a Cut (cond b (Happens (Send p q)) (cond d (Happens (Receive p q)) Cut))) ≡ true
-          → Swiftly m w (cond a Cut (cond b (Happens (Send p q)) (cond d (Happens (Receive p q)) Cut)))
+          → Hasty m w (cond a Cut (cond b (Happens (Send p q)) (cond d (Happens (Receive p q)) Cut)))
       go true ea b eb d ed h = absurd (true≢false (sym h))
       go false ea true eb d ed h = sent p q (sends w (ltb-false _ _ ea) (headed-by 16 w eb)) h
       go false ea false eb true ed h = received p q (receives w (ltb-false _ _ ea) (headed-by 17 w ed)) h
@@ -107,15 +107,15 @@ module _ (m : Mem) (w : List ℕ) where
   unmoved Cut h = refl
 
   -- it stands within the bytes
-  whole : goes (controlOf m) (swift w) ≡ true → swiftExtent ≤ length w
-  unfolding swift goes
-  whole = go (ltb (length w) swiftExtent) refl
+  whole : goes (controlOf m) (hasty w) ≡ true → hastyExtent ≤ length w
+  unfolding hasty goes
+  whole = go (ltb (length w) hastyExtent) refl
     where
-      go : (a : Bool) → ltb (length w) swiftExtent ≡ a
+      go : (a : Bool) → ltb (length w) hastyExtent ≡ a
           → goes (controlOf m)
           (cond a Cut (cond (headIs 16 w) (Happens (Send (getD w 3 0) (getD w 4 0))) (cond (headIs 17 w) (Happens (Receive (getD w 3 0) (getD w 4 0))) Cut)))
           ≡ true
-          → swiftExtent ≤ length w
+          → hastyExtent ≤ length w
       go true e h = absurd (true≢false (sym h))
       go false e h = ltb-false _ _ e
 
@@ -128,22 +128,22 @@ haste-drop (suc k) m (b ∷ bs) = haste-drop k m bs
 
 haste-is : (m : Mem) (w : List ℕ)
     → hasteBehind 0 m w
-    ≡ cond (goes (controlOf m) (swift w)) (further (hasteBehind 0 (left m (swift w)) (drop swiftExtent w))) (stays (left m (swift w)))
-unfolding hasteBehind swift goes left
+    ≡ cond (goes (controlOf m) (hasty w)) (further (hasteBehind 0 (left m (hasty w)) (drop hastyExtent w))) (stays (left m (hasty w)))
+unfolding hasteBehind hasty goes left
 haste-is m [] = refl
-haste-is m (b ∷ bs) = rw (haste-drop 4 (left m (swift (b ∷ bs))) bs)
+haste-is m (b ∷ bs) = rw (haste-drop 4 (left m (hasty (b ∷ bs))) bs)
 
-goes-haste : (m : Mem) (w : List ℕ) → goes (controlOf m) (swift w) ≡ true
-    → hasteBehind 0 m w ≡ further (hasteBehind 0 (left m (swift w)) (drop swiftExtent w))
+goes-haste : (m : Mem) (w : List ℕ) → goes (controlOf m) (hasty w) ≡ true
+    → hasteBehind 0 m w ≡ further (hasteBehind 0 (left m (hasty w)) (drop hastyExtent w))
 goes-haste m w e = haste-is m w ∙ rw e
 
-stays-haste : (m : Mem) (w : List ℕ) → goes (controlOf m) (swift w) ≡ false → hasteBehind 0 m w ≡ stays (left m (swift w))
+stays-haste : (m : Mem) (w : List ℕ) → goes (controlOf m) (hasty w) ≡ false → hasteBehind 0 m w ≡ stays (left m (hasty w))
 stays-haste m w e = haste-is m w ∙ rw e
 
 -- ---- what such turns keep is kept
 module _ (P : ℕ → Mem → List ℕ → Type 0)
-    (kept : (u : ℕ) (m : Mem) (w : List ℕ) → turn Later (controlOf m) w ≡ Goes swiftExtent Later Nothing → swiftExtent ≤ length w → P u m w
-    → P (u + swiftExtent) (turned Later m w) (drop swiftExtent w)) where
+    (kept : (u : ℕ) (m : Mem) (w : List ℕ) → turn Later (controlOf m) w ≡ Goes hastyExtent Later Nothing → hastyExtent ≤ length w → P u m w
+    → P (u + hastyExtent) (turned Later m w) (drop hastyExtent w)) where
   Kept : ℕ → List ℕ → Haste → Type 0
   Kept u w x = P (u + x .used) (x .words) (drop (x .used) w)
 
@@ -151,26 +151,26 @@ module _ (P : ℕ → Mem → List ℕ → Type 0)
   unfolding Kept stays
   kept-stays u m w h = let e : u + 0 ≡ u = omega arith in rw e h
 
-  kept-further : (u : ℕ) (w : List ℕ) (x : Haste) → Kept (u + swiftExtent) (drop swiftExtent w) x → Kept u w (further x)
+  kept-further : (u : ℕ) (w : List ℕ) (x : Haste) → Kept (u + hastyExtent) (drop hastyExtent w) x → Kept u w (further x)
   unfolding Kept further
   kept-further u w x h =
-      let e : u + (swiftExtent + x .used) ≡ u + swiftExtent + x .used = omega arith in
-      rw (e, ← drop-drop (x .used) swiftExtent w) h
+      let e : u + (hastyExtent + x .used) ≡ u + hastyExtent + x .used = omega arith in
+      rw (e, ← drop-drop (x .used) hastyExtent w) h
 
   behind-kept : (bs : List ℕ) (k u : ℕ) (m : Mem) → P u m (drop k bs) → Kept u (drop k bs) (hasteBehind k m bs)
   unfolding hasteBehind
   behind-kept [] k u m h = kept-stays u m (drop k []) h
   behind-kept (b ∷ bs) (suc k) u m h = behind-kept bs k u m h
   behind-kept (b ∷ bs) zero u m h =
-      go (goes (controlOf m) (swift (b ∷ bs))) refl
-      (λ e. behind-kept bs 4 (u + swiftExtent) (left m (swift (b ∷ bs)))
-      (let s = swiftly m (b ∷ bs) e in rw (s .words) at (kept u m (b ∷ bs) (s .turns) (whole m (b ∷ bs) e) h)))
+      go (goes (controlOf m) (hasty (b ∷ bs))) refl
+      (λ e. behind-kept bs 4 (u + hastyExtent) (left m (hasty (b ∷ bs)))
+      (let s = in-haste m (b ∷ bs) e in rw (s .words) at (kept u m (b ∷ bs) (s .turns) (whole m (b ∷ bs) e) h)))
     where
-      go : (a : Bool) → goes (controlOf m) (swift (b ∷ bs)) ≡ a
-          → (goes (controlOf m) (swift (b ∷ bs)) ≡ true → Kept (u + swiftExtent) (drop 4 bs) (hasteBehind 4 (left m (swift (b ∷ bs))) bs))
-          → Kept u (b ∷ bs) (cond a (further (hasteBehind 4 (left m (swift (b ∷ bs))) bs)) (stays (left m (swift (b ∷ bs)))))
-      go true e f = kept-further u (b ∷ bs) (hasteBehind 4 (left m (swift (b ∷ bs))) bs) (f e)
-      go false e f = rw (unmoved m (b ∷ bs) (swift (b ∷ bs)) e) (kept-stays u m (b ∷ bs) h)
+      go : (a : Bool) → goes (controlOf m) (hasty (b ∷ bs)) ≡ a
+          → (goes (controlOf m) (hasty (b ∷ bs)) ≡ true → Kept (u + hastyExtent) (drop 4 bs) (hasteBehind 4 (left m (hasty (b ∷ bs))) bs))
+          → Kept u (b ∷ bs) (cond a (further (hasteBehind 4 (left m (hasty (b ∷ bs))) bs)) (stays (left m (hasty (b ∷ bs)))))
+      go true e f = kept-further u (b ∷ bs) (hasteBehind 4 (left m (hasty (b ∷ bs))) bs) (f e)
+      go false e f = rw (unmoved m (b ∷ bs) (hasty (b ∷ bs)) e) (kept-stays u m (b ∷ bs) h)
 
   pub haste-kept : (u : ℕ) (m : Mem) (w : List ℕ) → P u m w → P (u + haste Later m w .used) (haste Later m w .words) (drop (haste Later m w .used) w)
   unfolding haste Kept
@@ -181,7 +181,7 @@ pub haste-within : (pl : Place) (m : Mem) (w : List ℕ) → haste pl m w .used 
 unfolding haste stays
 haste-within First m w = omega arith
 haste-within Later m w =
-    let all = haste-kept (λ u x v. u + length v ≡ length w) (λ u x v e l h. (let d = length-drop swiftExtent v in omega arith)) 0 m w (omega arith) in
+    let all = haste-kept (λ u x v. u + length v ≡ length w) (λ u x v e l h. (let d = length-drop hastyExtent v in omega arith)) 0 m w (omega arith) in
     omega (arith, all)
 haste-within Behind m w = omega arith
 
@@ -212,11 +212,11 @@ head-is w tag r a b c e = go (eqb (getD w 0 0) tag) refl (eqb (getD w 1 0) 0) re
 -- what comes of each test
 module _ (m : Mem) (w : List ℕ) where
   abbrev Found : Bool → Mem → Type 0
-  Found b n = (b ≡ goes (controlOf m) (swift w)) × (n ≡ left m (swift w))
+  Found b n = (b ≡ goes (controlOf m) (hasty w)) × (n ≡ left m (hasty w))
 
-  pub too-few : length w < swiftExtent → Found false m
-  unfolding swift goes left
-  too-few l = (rw (lt-ltb (length w) swiftExtent l), rw (lt-ltb (length w) swiftExtent l))
+  pub too-few : length w < hastyExtent → Found false m
+  unfolding hasty goes left
+  too-few l = (rw (lt-ltb (length w) hastyExtent l), rw (lt-ltb (length w) hastyExtent l))
 
 -- tag and length of a send and of a receive as one number
 abbrev sendHead : ℕ
@@ -227,13 +227,13 @@ receiveHead = 1114114
 
 -- the head of the bytes, as the one number that the code reads
 pub record Numbered (w : List ℕ) (r : ℕ) : Type 0 where
-  pub long : swiftExtent ≤ length w
+  pub long : hastyExtent ≤ length w
   pub bytes : (i : ℕ) → getD w i 0 < 256
   pub number : r ≡ getD w 0 0 * 65536 + getD w 1 0 * 256 + getD w 2 0
 
 module _ (m : Mem) {w : List ℕ} {r : ℕ} (h : Numbered w r) where
-  whole-is : ltb (length w) swiftExtent ≡ false
-  whole-is = le-ltb (length w) swiftExtent (h .long)
+  whole-is : ltb (length w) hastyExtent ≡ false
+  whole-is = le-ltb (length w) hastyExtent (h .long)
 
   is-send : headIs 16 w ≡ eqb r sendHead
   is-send = head-is w 16 r (h .bytes 0) (h .bytes 1) (h .bytes 2) (h .number)
@@ -243,47 +243,47 @@ module _ (m : Mem) {w : List ℕ} {r : ℕ} (h : Numbered w r) where
 
   pub found-send : {v : Verdict} {n : Mem} {k : ℕ} → r ≡ sendHead → (v ≡ verdict (controlOf m) (Send (getD w 3 0) (getD w 4 0)))
       × (n ≡ applied m (Send (getD w 3 0) (getD w 4 0))) → k ≡ numberOf v → Found m w (eqb k 0) n
-  unfolding swift goes left accepted
+  unfolding hasty goes left accepted
   found-send e s q = (rw (whole-is, is-send, eq-eqb r sendHead e, q, s .0), rw (whole-is, is-send, eq-eqb r sendHead e) (s .1))
 
   pub found-receive : {v : Verdict} {n : Mem} {k : ℕ} → (r ≡ sendHead → ⊥) → r ≡ receiveHead
       → (v ≡ verdict (controlOf m) (Receive (getD w 3 0) (getD w 4 0))) × (n ≡ applied m (Receive (getD w 3 0) (getD w 4 0))) → k ≡ numberOf v
       → Found m w (eqb k 0) n
-  unfolding swift goes left accepted
+  unfolding hasty goes left accepted
   found-receive f e s q = (
     rw (whole-is, is-send, ne-eqb r sendHead f, is-receive, eq-eqb r receiveHead e, q, s .0),
     rw (whole-is, is-send, ne-eqb r sendHead f, is-receive, eq-eqb r receiveHead e) (s .1),
   )
 
   pub found-none : (r ≡ sendHead → ⊥) → (r ≡ receiveHead → ⊥) → Found m w false m
-  unfolding swift goes left
+  unfolding hasty goes left
   found-none f g = (
     rw (whole-is, is-send, ne-eqb r sendHead f, is-receive, ne-eqb r receiveHead g),
     rw (whole-is, is-send, ne-eqb r sendHead f, is-receive, ne-eqb r receiveHead g),
   )
 
 -- ---- the loop over them: at a place, all that is taken is what was taken so far and what is taken from there on
-pub record Hurried (m₀ : Mem) (w : List ℕ) (m : Mem) (at : ℕ) : Type 0 where
+pub record Hastened (m₀ : Mem) (w : List ℕ) (m : Mem) (at : ℕ) : Type 0 where
   pub within : at ≤ length w
   pub used : hasteBehind 0 m₀ w .used ≡ at + hasteBehind 0 m (drop at w) .used
   pub words : hasteBehind 0 m₀ w .words ≡ hasteBehind 0 m (drop at w) .words
 
-module _ {m₀ : Mem} {w : List ℕ} {m n : Mem} {at : ℕ} {b : Bool} (h : Hurried m₀ w m at) (f : Found m (take (length w - at) (drop at w)) b n) where
+module _ {m₀ : Mem} {w : List ℕ} {m n : Mem} {at : ℕ} {b : Bool} (h : Hastened m₀ w m at) (f : Found m (take (length w - at) (drop at w)) b n) where
   found : Found m (drop at w) b n
   found = (rw rest at (f .0), rw rest at (f .1))
 
-  pub hurries-far : b ≡ true → at + swiftExtent ≤ length w
-  hurries-far e =
+  pub hastens-far : b ≡ true → at + hastyExtent ≤ length w
+  hastens-far e =
       let l = whole m (drop at w) (sym (found .0) ∙ e) in
       omega (arith, h .within, l, length-drop at w)
 
-  pub hurries-on : b ≡ true → Hurried m₀ w n (at + swiftExtent)
+  pub hastens-on : b ≡ true → Hastened m₀ w n (at + hastyExtent)
   unfolding further
-  hurries-on e =
-      let far = hurries-far e in
+  hastens-on e =
+      let far = hastens-far e in
       let on = goes-haste m (drop at w) (sym (found .0) ∙ e) in
-      let next : drop swiftExtent (drop at w) ≡ drop (at + swiftExtent) w = drop-drop swiftExtent at w in
-      let more : hasteBehind 0 m (drop at w) .used ≡ swiftExtent + hasteBehind 0 n (drop (at + swiftExtent) w) .used
+      let next : drop hastyExtent (drop at w) ≡ drop (at + hastyExtent) w = drop-drop hastyExtent at w in
+      let more : hasteBehind 0 m (drop at w) .used ≡ hastyExtent + hasteBehind 0 n (drop (at + hastyExtent) w) .used
       = rw (found .1, ← next) (ap (λ (x : Haste). x .used) on) in
       record {
         within = far;
@@ -291,12 +291,12 @@ module _ {m₀ : Mem} {w : List ℕ} {m n : Mem} {at : ℕ} {b : Bool} (h : Hurr
         words = h .words ∙ rw (found .1, ← next) (ap (λ (x : Haste). x .words) on);
       }
 
-  pub hurries-no-more : b ≡ false → (at ≡ hasteBehind 0 m₀ w .used) × (n ≡ hasteBehind 0 m₀ w .words)
+  pub hastens-no-more : b ≡ false → (at ≡ hasteBehind 0 m₀ w .used) × (n ≡ hasteBehind 0 m₀ w .words)
   unfolding stays
-  hurries-no-more e =
+  hastens-no-more e =
       let off = stays-haste m (drop at w) (sym (found .0) ∙ e) in
       let none : hasteBehind 0 m (drop at w) .used ≡ 0 = ap (λ (x : Haste). x .used) off in
       (omega (arith, h .used, none), found .1 ∙ sym (h .words ∙ ap (λ (x : Haste). x .words) off))
 
-pub not-yet : (m : Mem) (w : List ℕ) → Hurried m w m 0
+pub not-yet : (m : Mem) (w : List ℕ) → Hastened m w m 0
 not-yet m w = record { within = omega arith; used = omega arith; words = refl }

@@ -8,7 +8,7 @@ use mathlib.Core.List.{List}
 use lib.ListN.{length, take, drop, length-drop}
 use lib.Seq.{drop-drop}
 use Rattle.rounds.specs.declared.Verdict.{Verdict}
-use Rattle.rounds.specs.Run.{Control}
+use Rattle.rounds.specs.Config.{Control}
 use Rattle.rounds.specs.Verdicts.{accepted}
 use Rattle.rounds.specs.Events.{ifAccepted}
 use Rattle.words.specs.Layout.{Mem}
@@ -59,14 +59,14 @@ unfolding turn Within
 goes-within pl c w e = subst (Within w) e (record-within c w (parse pl w) (extent-within pl w))
 
 -- ---- how far the loop has come in the trace w: what is ahead from the place at on is what is ahead of all of it
-pub record Reached (w : List ℕ) (pl : Place) (m : Mem) (at : ℕ) : Type 0 where
+pub record ComeTo (w : List ℕ) (pl : Place) (m : Mem) (at : ℕ) : Type 0 where
   pub within : at ≤ length w
   pub ahead-of : ahead pl m (drop at w) ≡ ahead First blank w
 
 -- ---- sends and receives taken all at once from there on: m′ is the memory that they leave
-pub hastened : {w : List ℕ} {pl : Place} {m m′ : Mem} {at more : ℕ} → Reached w pl m at
+pub hastened : {w : List ℕ} {pl : Place} {m m′ : Mem} {at more : ℕ} → ComeTo w pl m at
     → (more ≡ haste pl m (take (length w - at) (drop at w)) .used) × (m′ ≡ haste pl m (take (length w - at) (drop at w)) .words)
-    → Reached w pl m′ (at + more)
+    → ComeTo w pl m′ (at + more)
 hastened {w} {pl} {m} {m′} {at} h e =
     let used = rw rest at (e .0) in
     let words = rw rest at (e .1) in
@@ -78,11 +78,11 @@ hastened {w} {pl} {m} {m′} {at} h e =
 
 -- ---- the turn there: its bytes are those from the place on, x is its answer, and m′ the memory that it leaves
 pub record Taken (w : List ℕ) (pl : Place) (m m′ : Mem) (at : ℕ) (x : Turn) : Type 0 where
-  pub so : Reached w pl m at
+  pub so : ComeTo w pl m at
   pub answer : x ≡ turn pl (controlOf m) (drop at w)
   pub words : m′ ≡ turned pl m (drop at w)
 
-pub taken : {w : List ℕ} {pl : Place} {m m′ : Mem} {at : ℕ} {x : Turn} → Reached w pl m at
+pub taken : {w : List ℕ} {pl : Place} {m m′ : Mem} {at : ℕ} {x : Turn} → ComeTo w pl m at
     → (x ≡ turn pl (controlOf m) (take (length w - at) (drop at w))) × (m′ ≡ turned pl m (take (length w - at) (drop at w)))
     → Taken w pl m m′ at x
 taken h e = record { so = h; answer = rw rest at (e .0); words = rw rest at (e .1) }
@@ -93,7 +93,7 @@ module _ {w : List ℕ} {pl : Place} {m m′ : Mem} {at : ℕ} {x : Turn} (c : T
       let far = goes-within pl (controlOf m) (drop at w) (sym (c .answer) ∙ e) in
       (far .0, omega (arith, far .1, length-drop at w, c .so .within))
 
-  pub goes-on : {k : ℕ} {next : Place} {t : Told} → x ≡ Goes k next t → Reached w next m′ (at + k)
+  pub goes-on : {k : ℕ} {next : Place} {t : Told} → x ≡ Goes k next t → ComeTo w next m′ (at + k)
   goes-on {k} e =
       record {
         within = goes-far e .1;

@@ -10,7 +10,7 @@ use lib.ListN.{length}
 use Rattle.sets.proofs.Determined.{determined}
 use Rattle.rounds.specs.declared.Verdict.{Verdict}
 use Rattle.rounds.specs.declared.Verdict.the-variants.{Accepted}
-use Rattle.rounds.specs.Run.{Config, opening}
+use Rattle.rounds.specs.Config.{Config, opening}
 use Rattle.rounds.specs.Verdicts.{accepted, openVerdict}
 use Rattle.rounds.specs.Events.{ifAccepted}
 use Rattle.rounds.specs.Runs.{valueAt, nightVerdict, night, nightReports}

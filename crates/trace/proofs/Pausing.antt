@@ -7,7 +7,7 @@ use mathlib.Core.Bool.{Bool, true, false, cond}
 use mathlib.Core.List.{List, [], _++_}
 use lib.ListN.{length}
 use Rattle.rounds.specs.declared.Verdict.{Verdict}
-use Rattle.rounds.specs.Run.{Control}
+use Rattle.rounds.specs.Config.{Control}
 use Rattle.rounds.specs.Verdicts.{accepted}
 use Rattle.rounds.specs.Events.{ifAccepted}
 use Rattle.words.specs.Layout.{Mem}

@@ -6,7 +6,7 @@ use mathlib.Core.Bool.{Bool, true, false, cond}
 use mathlib.Core.List.{List, [], _∷_, _++_}
 use lib.ListN.{length, drop}
 use Rattle.rounds.specs.declared.Event.{Event}
-use Rattle.rounds.specs.Run.{Control, Config, openControl, opening}
+use Rattle.rounds.specs.Config.{Control, Config, openControl, opening}
 use Rattle.rounds.specs.Verdicts.{accepted, openVerdict, verdict}
 use Rattle.rounds.specs.Events.{ifAccepted, applyControl, apply}
 use Rattle.rounds.specs.Runs.{Report, told, reports, heeded, valueAt, nightReports}

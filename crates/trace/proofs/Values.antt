@@ -7,7 +7,7 @@ use mathlib.Core.List.{List, [], _∷_, _++_}
 use lib.ListN.{length, take, drop, length-append, length-drop}
 use lib.Seq.{drop-at, take-append-le, drop-append-le}
 use Rattle.rounds.specs.declared.Event.{Event}
-use Rattle.rounds.specs.Run.{Config}
+use Rattle.rounds.specs.Config.{Config}
 use Rattle.rounds.specs.Runs.{valueAt, night}
 use Rattle.rounds.specs.Claims.{Agree}
 use Rattle.rounds.proofs.Demands.{Alike, nights-alike}

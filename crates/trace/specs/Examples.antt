@@ -5,7 +5,7 @@ use mathlib.Core.Bool.{Bool, _&&_}
 use mathlib.Core.List.{List, [], _∷_, _++_}
 use lib.Dec.{eqb}
 use lib.ListN.{replicate}
-use Rattle.rounds.specs.Run.{noRun}
+use Rattle.rounds.specs.Config.{noRun}
 use Rattle.rounds.specs.Verdicts.{openVerdict}
 use Rattle.rounds.specs.Runs.{Report, heeded, nightVerdict, night, nightReports}
 use Rattle.rounds.specs.Examples.{run, equal, waits}

@@ -6,7 +6,7 @@ use mathlib.Core.List.{List, [], _∷_}
 use lib.Dec.{ltb, eqb}
 use lib.ListN.{length, getD}
 use Rattle.rounds.specs.declared.Event.the-variants.{Send, Receive}
-use Rattle.rounds.specs.Run.{Control}
+use Rattle.rounds.specs.Config.{Control}
 use Rattle.rounds.specs.Verdicts.{accepted, verdict}
 use Rattle.words.specs.Layout.{Mem}
 use Rattle.words.specs.Spelled.{controlOf}
@@ -17,16 +17,16 @@ use Rattle.records.specs.declared.Record.{Record}
 use Rattle.records.specs.declared.Record.the-variants.{Opening, Happens, End, Wrong, Cut}
 
 -- the bytes of either: a tag, a length of 2, and two processes
-abbrev pub swiftExtent : ℕ
-swiftExtent = 5
+abbrev pub hastyExtent : ℕ
+hastyExtent = 5
 
 unfoldable pub headIs : ℕ → List ℕ → Bool
 headIs tag w = eqb (getD w 0 0) tag && (eqb (getD w 1 0) 0 && eqb (getD w 2 0) 2)
 
 -- the send or the receive that stands whole at the head of the bytes, and `Cut` where there is none
-unfoldable pub swift : List ℕ → Record
-swift w =
-    cond (ltb (length w) swiftExtent) Cut
+unfoldable pub hasty : List ℕ → Record
+hasty w =
+    cond (ltb (length w) hastyExtent) Cut
     (cond (headIs 16 w) (Happens (Send (getD w 3 0) (getD w 4 0)))
     (cond (headIs 17 w) (Happens (Receive (getD w 3 0) (getD w 4 0))) Cut))
 
@@ -54,14 +54,14 @@ unfoldable pub stays : Mem → Haste
 stays m = record { used = 0; words = m }
 
 unfoldable pub further : Haste → Haste
-further x = record { used = swiftExtent + x .used; words = x .words }
+further x = record { used = hastyExtent + x .used; words = x .words }
 
 -- behind the next k bytes
 unfoldable pub hasteBehind : ℕ → Mem → List ℕ → Haste
 hasteBehind k m [] = stays m
 hasteBehind (suc k) m (b ∷ bs) = hasteBehind k m bs
 hasteBehind zero m (b ∷ bs) =
-    cond (goes (controlOf m) (swift (b ∷ bs))) (further (hasteBehind 4 (left m (swift (b ∷ bs))) bs)) (stays (left m (swift (b ∷ bs))))
+    cond (goes (controlOf m) (hasty (b ∷ bs))) (further (hasteBehind 4 (left m (hasty (b ∷ bs))) bs)) (stays (left m (hasty (b ∷ bs))))
 
 -- ---- at each place of a trace: an event stands only at a later one
 unfoldable pub haste : Place → Mem → List ℕ → Haste

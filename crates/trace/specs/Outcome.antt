@@ -4,7 +4,7 @@ use Prim.Native.Nat.{ℕ}
 use mathlib.Core.List.{List, []}
 use Rattle.rounds.specs.declared.Verdict.{Verdict}
 use Rattle.rounds.specs.declared.Verdict.the-variants.{Accepted}
-use Rattle.rounds.specs.Run.{Config, noRun}
+use Rattle.rounds.specs.Config.{Config, noRun}
 use Rattle.rounds.specs.Verdicts.{numberOf}
 use Rattle.rounds.specs.Events.{ifAccepted}
 use Rattle.rounds.specs.Runs.{Report, nightVerdict, night, nightReports}

@@ -4,7 +4,7 @@ use Prim.Native.Nat.{ℕ}
 use mathlib.Core.List.{List, [], _∷_}
 use lib.ListN.{length}
 use Rattle.rounds.specs.declared.Event.{Event}
-use Rattle.rounds.specs.Run.{Control, Config, opening}
+use Rattle.rounds.specs.Config.{Control, Config, opening}
 use Rattle.rounds.specs.Verdicts.{openVerdict}
 use Rattle.rounds.specs.Events.{ifAccepted, apply}
 use Rattle.rounds.specs.Runs.{Report, valueAt}

@@ -9,7 +9,7 @@ use words::Answer;
 ghost use Prim.Native.Nat.{_+_, _*_, _≤_, _<_};
 ghost use mathlib.Core.Path.{_≡_};
 ghost use lib.ListN.{length, getD, take};
-ghost use Rattle.rounds.specs.Run.{Config};
+ghost use Rattle.rounds.specs.Config.{Config};
 ghost use Rattle.rounds.specs.Verdicts.{openVerdict};
 ghost use Rattle.words.specs.Spelled.{controlOf};
 ghost use Rattle.words.specs.Calls.{begins, applied, answer};
@@ -51,7 +51,7 @@ const SEND: u32 = 0x100002;
 
 const RECEIVE: u32 = 0x110002;
 
-const SWIFT: usize = 5;
+const HASTY: usize = 5;
 
 // The number that document 01 gives an ending.
 pub fn number(e: Ending) -> u32
@@ -197,11 +197,11 @@ fn head(bytes: &[u8]) -> u32
 }
 
 // The send or the receive that stands whole at the head of the bytes: whether there is one, and it is accepted.
-fn swift(run: &mut [u32; RUN], bytes: &[u8]) -> bool
-    ensures { λ r. ⌜ (r ≡ Haste.goes (controlOf (now (run .entry))) (Haste.swift (now (bytes .entry))))
-        × (now (run .exit) ≡ Haste.left (now (run .entry)) (Haste.swift (now (bytes .entry)))) ⌝ }
+fn hasten_one(run: &mut [u32; RUN], bytes: &[u8]) -> bool
+    ensures { λ r. ⌜ (r ≡ Haste.goes (controlOf (now (run .entry))) (Haste.hasty (now (bytes .entry))))
+        × (now (run .exit) ≡ Haste.left (now (run .entry)) (Haste.hasty (now (bytes .entry)))) ⌝ }
 {
-    if bytes.len() < SWIFT {
+    if bytes.len() < HASTY {
         return false;
     }
     let h = head(bytes);
@@ -217,13 +217,13 @@ fn swift(run: &mut [u32; RUN], bytes: &[u8]) -> bool
 }
 
 // As many of them as are accepted one after the other.
-fn swiftly(run: &mut [u32; RUN], bytes: &[u8]) -> usize
+fn hasten_all(run: &mut [u32; RUN], bytes: &[u8]) -> usize
     ensures { λ r. ⌜ (r ≡ Haste.hasteBehind 0 (now (run .entry)) (now (bytes .entry)) .used)
         × (now (run .exit) ≡ Haste.hasteBehind 0 (now (run .entry)) (now (bytes .entry)) .words) ⌝ }
 {
     let mut at: usize = 0;
-    while swift(&mut *run, &bytes[at..]) {
-        at += SWIFT;
+    while hasten_one(&mut *run, &bytes[at..]) {
+        at += HASTY;
     }
     at
 }
@@ -236,7 +236,7 @@ pub fn hasten(run: &mut [u32; RUN], bytes: &[u8], place: Place) -> usize
 {
     match place {
         Place::First => 0,
-        Place::Later => swiftly(run, bytes),
+        Place::Later => hasten_all(run, bytes),
         Place::Behind => 0,
     }
 }

@@ -10,7 +10,7 @@ use Rattle.rounds.specs.declared.Event.the-variants.{Send, Receive, Step, Broad
 use Rattle.rounds.specs.declared.Verdict.{Verdict}
 use Rattle.rounds.specs.declared.Verdict.the-variants.{NoProcess, TooManyEvents}
 use Rattle.rounds.specs.Limits.{mostProcesses}
-use Rattle.rounds.specs.Run.{Control, Content}
+use Rattle.rounds.specs.Config.{Control, Content}
 use Rattle.rounds.specs.Stages.{sentToAll}
 use Rattle.rounds.specs.Verdicts.{accepted, refuse, outside, crowded, sendVerdict, receiveVerdict, stepVerdict, firstRefusal, verdict}
 use Rattle.rounds.specs.Events.{ifAccepted}

@@ -10,9 +10,9 @@ use Rattle.sets.proofs.Bounds.{has-within}
 use Rattle.rounds.specs.declared.Stage.{Stage}
 use Rattle.rounds.specs.declared.Stage.the-variants.{Sending, Collecting, Pending, Idle}
 use Rattle.rounds.specs.Limits.{mostProcesses, window, lastRound, mostEvents}
-use Rattle.rounds.specs.Run.{Control, Content, openControl}
+use Rattle.rounds.specs.Config.{Control, Content, openControl}
 use Rattle.rounds.specs.Runs.{Report}
-use Rattle.rounds.specs.Leads.{Reached}
+use Rattle.rounds.specs.Course.{FromOpening}
 use Rattle.rounds.specs.Claims.{total}
 use Rattle.rounds.specs.Claims.Live.{waiting, taken}
 use Rattle.rounds.proofs.Kept.{Kept, kept}
@@ -48,7 +48,7 @@ near c few w in-size x r q (taken e t) =
     let inside = has-within (c .size) _ q (in-size .heard x) t in
     (omega arith, omega arith, omega arith)
 
-module _ (n : ℕ) (v : ℕ → ℕ) {c : Control} {d : Content} {rs : List Report} (l : Reached n v c d rs) where
+module _ (n : ℕ) (v : ℕ → ℕ) {c : Control} {d : Content} {rs : List Report} (l : FromOpening n v c d rs) where
   abbrev throughout : (I : Control → Type 0) → Kept (λ c d. I c) → I (openControl n) → I c
   throughout I k i = kept (λ c d. I c) k l i
 

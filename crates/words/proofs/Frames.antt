@@ -11,7 +11,7 @@ use Rattle.sets.specs.Sets.{has}
 use Rattle.rounds.specs.declared.Stage.{Stage}
 use Rattle.rounds.specs.declared.Stage.the-variants.{Sending, Collecting, Pending, Idle}
 use Rattle.rounds.specs.Limits.{mostProcesses, window}
-use Rattle.rounds.specs.Run.{Site, Control, Content}
+use Rattle.rounds.specs.Config.{Site, Control, Content}
 use Rattle.rounds.specs.Stages.{sentToAll, heardFromAll, waited, stage, index}
 use Rattle.rounds.specs.Claims.{Live}
 use Rattle.rounds.specs.Claims.Live.{waiting, taken}

@@ -7,7 +7,7 @@ use mathlib.Core.Bool.{true}
 use mathlib.Core.List.{List, [], _∷_}
 use lib.Dec.{lit<}
 use Rattle.sets.specs.Sets.{has, with}
-use Rattle.rounds.specs.Run.{Site, Control, Content, at}
+use Rattle.rounds.specs.Config.{Site, Control, Content, at}
 use Rattle.rounds.specs.Stages.{index}
 use Rattle.rounds.specs.Claims.{Live}
 use Rattle.rounds.specs.Claims.Live.{waiting, taken}

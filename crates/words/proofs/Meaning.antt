@@ -12,18 +12,18 @@ use Rattle.rounds.specs.declared.Event.the-variants.{Send, Receive, Step, Broad
 use Rattle.rounds.specs.declared.Verdict.{Verdict}
 use Rattle.rounds.specs.declared.Verdict.the-variants.{Accepted}
 use Rattle.rounds.specs.Limits.{mostProcesses}
-use Rattle.rounds.specs.Run.{Control, Content, Config, openControl, opening, noRun}
+use Rattle.rounds.specs.Config.{Control, Content, Config, openControl, opening, noRun}
 use Rattle.rounds.specs.Verdicts.{accepted, openVerdict, verdict}
 use Rattle.rounds.specs.Events.{sendsControl, sendsContent, nextControl, nextContent, ifAccepted, apply}
 use Rattle.rounds.specs.Runs.{Report, told}
 use Rattle.rounds.specs.Allowed.{Broadcasts, Allowed}
-use Rattle.rounds.specs.Leads.{Reached}
-use Rattle.rounds.specs.Leads.Leads.{stays}
+use Rattle.rounds.specs.Course.{FromOpening}
+use Rattle.rounds.specs.Course.Course.{stays}
 use Rattle.rounds.proofs.Answers.{allowed, accepted-is, opens-right}
 use Rattle.rounds.proofs.Broadcasts.{sends-size, each-sends}
-use Rattle.rounds.proofs.Leading.{sends-lead, apply-leads}
+use Rattle.rounds.proofs.MadeOfThree.{sends-course, apply-course}
 use Rattle.rounds.proofs.Limits.{size-stays}
-use Rattle.rounds.proofs.Running.{apply-accepted, apply-refused}
+use Rattle.rounds.proofs.After.{apply-accepted, apply-refused}
 use Rattle.words.specs.declared.Answer.{Answer}
 use Rattle.words.specs.declared.Answer.the-variants.{Judged}
 use Rattle.words.specs.declared.Standing.{Standing}
@@ -41,7 +41,7 @@ use Rattle.words.proofs.Opening.{blank-shown, opened-shown}
 use Rattle.words.proofs.Reading.{size-means, site-means}
 
 -- ---- an accepted event
-module _ (m : Mem) (c : Control) (d : Content) (v : ℕ → ℕ) {rs : List Report} (l : Reached (c .size) v c d rs) (few : c .size ≤ mostProcesses)
+module _ (m : Mem) (c : Control) (d : Content) (v : ℕ → ℕ) {rs : List Report} (l : FromOpening (c .size) v c d rs) (few : c .size ≤ mostProcesses)
     (k : Shown m c d) where
   -- the sends of a broadcast, one after the other
   sends-shown : (p : ℕ) → Broadcasts c p → (n : ℕ) → n ≤ c .size → Shown (sentBelow n m p) (sendsControl n c p) (sendsContent n c d p)
@@ -49,7 +49,7 @@ module _ (m : Mem) (c : Control) (d : Content) (v : ℕ → ℕ) {rs : List Repo
   sends-shown p b zero h = k
   sends-shown p b (suc n) h =
       sent-shows (sentBelow n m p) (sendsControl n c p) (sendsContent n c d p) p n
-      (fit (c .size) v (sends-lead l p b n (omega arith)) (let size = sends-size n c p in omega arith))
+      (fit (c .size) v (sends-course l p b n (omega arith)) (let size = sends-size n c p in omega arith))
       (each-sends c p b n h) (sends-shown p b n (omega arith))
 
   done-shown : (e : Event) → Allowed c e → Shown (done m e) (nextControl c e) (nextContent c d e)
@@ -66,24 +66,24 @@ applied-shown m c e k = rw (verdict-shown m (c .control) (c .content) (k .few) (
   where
     go : (b : Bool) → accepted (verdict (c .control) e) ≡ b → Shown (cond b (done m e) m) (apply c e .control) (apply c e .content)
     go true a =
-        rw (apply-accepted c e a) (done-shown m (c .control) (c .content) (k .values) (k .reached) (k .few) (k .shown) e (allowed (c .control) e a))
+        rw (apply-accepted c e a) (done-shown m (c .control) (c .content) (k .values) (k .course) (k .few) (k .shown) e (allowed (c .control) e a))
     go false a = rw (apply-refused c e a) (k .shown)
 
 -- the number of processes stays
-apply-size : (n : ℕ) (v : ℕ → ℕ) (c : Config) (e : Event) {rs : List Report} → Reached n v (c .control) (c .content) rs → apply c e .control .size ≡ n
+apply-size : (n : ℕ) (v : ℕ → ℕ) (c : Config) (e : Event) {rs : List Report} → FromOpening n v (c .control) (c .content) rs → apply c e .control .size ≡ n
 unfolding apply openControl
-apply-size n v c e l = size-stays (apply-leads l e)
+apply-size n v c e l = size-stays (apply-course l e)
 
 pub shows-next : (m : Mem) (c : Config) (e : Event) → Shows m c → Shows (applied m e) (apply c e)
 unfolding apply
 shows-next m c e k =
     let n = c .control .size in
-    let size = apply-size n (k .values) c e (k .reached) in
+    let size = apply-size n (k .values) c e (k .course) in
     let more = k .reports ++ ifAccepted (verdict (c .control) e) (told (c .control) e) [] in
     record {
       values = k .values;
       reports = more;
-      reached = subst (λ (i : ℕ). Reached i (k .values) (apply c e .control) (apply c e .content) more) (sym size) (apply-leads (k .reached) e);
+      course = subst (λ (i : ℕ). FromOpening i (k .values) (apply c e .control) (apply c e .content) more) (sym size) (apply-course (k .course) e);
       few = rw size (k .few);
       shown = applied-shown m c e k;
     }
@@ -98,7 +98,7 @@ means m c e k =
 -- ---- an opening
 pub opening-shows : (n : ℕ) (xs : List ℕ) (v : ℕ → ℕ) → n ≤ mostProcesses → Given n xs v → Shows (opened n xs) (opening n v)
 unfolding opening openControl
-opening-shows n xs v few given = record { values = v; reports = []; reached = stays; few = few; shown = opened-shown n xs v few given }
+opening-shows n xs v few given = record { values = v; reports = []; course = stays; few = few; shown = opened-shown n xs v few given }
 
 pub begin-means : (m : Mem) (n : ℕ) (xs : List ℕ) (v : ℕ → ℕ) → openVerdict n (length xs) ≡ Accepted → Given n xs v
     → Shows (begins m n xs) (opening n v)
@@ -110,7 +110,7 @@ begin-means m n xs v a given =
 -- ---- where no run is: every word is 0
 pub blank-shows : Shows blank noRun
 unfolding noRun opening openControl
-blank-shows = record { values = λ p. 0; reports = []; reached = stays; few = omega arith; shown = blank-shown (λ p. 0) }
+blank-shows = record { values = λ p. 0; reports = []; course = stays; few = omega arith; shown = blank-shown (λ p. 0) }
 
 -- ---- a refusal leaves every word as it was, whatever the memory holds; an accepted opening leaves none
 pub refused-unchanged : (m : Mem) (e : Event) → accepted (verdict (controlOf m) e) ≡ false → applied m e ≡ m

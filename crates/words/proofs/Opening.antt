@@ -10,7 +10,7 @@ use lib.ListN.{getD, length, length-replicate, getD-replicate}
 use Rattle.sets.specs.Sets.{empty, with}
 use Rattle.voting.specs.Voting.{opens}
 use Rattle.rounds.specs.Limits.{mostProcesses}
-use Rattle.rounds.specs.Run.{openControl, openContent}
+use Rattle.rounds.specs.Config.{openControl, openContent}
 use Rattle.rounds.specs.Stages.{index}
 use Rattle.rounds.proofs.Live.{open-silent}
 use Rattle.words.specs.Layout.{Mem, RUN, heads, line, Place, Head, Line, Transit, at, get, Write, _:=_, writes, SIZE, EVENTS, VALUE, VOTED, DECIDED, ROUND, SENT, HEARD, REACH, SINCE, COUNTS}

@@ -11,7 +11,7 @@ use Rattle.sets.specs.Sets.{has, with}
 use Rattle.sets.proofs.Membership.{with-cases}
 use Rattle.voting.specs.declared.Message.{Message}
 use Rattle.rounds.specs.Limits.{mostProcesses, window}
-use Rattle.rounds.specs.Run.{Control, Content, at₂, at₃, at}
+use Rattle.rounds.specs.Config.{Control, Content, at₂, at₃, at}
 use Rattle.rounds.specs.Stages.{index}
 use Rattle.rounds.specs.Claims.{Live}
 use Rattle.rounds.specs.Claims.Live.{waiting, taken}

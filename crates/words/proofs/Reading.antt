@@ -9,7 +9,7 @@ use borrow.Author.Tests.{lt-leb, ltb-false}
 use Rattle.rounds.specs.Limits.{mostProcesses}
 use Rattle.rounds.specs.declared.Stage.{Stage}
 use Rattle.rounds.specs.declared.Stage.the-variants.{Sending, Collecting, Pending, Idle}
-use Rattle.rounds.specs.Run.{Config}
+use Rattle.rounds.specs.Config.{Config}
 use Rattle.rounds.specs.Claims.{total}
 use Rattle.words.specs.Layout.{Mem, Head, get, SIZE, EVENTS}
 use Rattle.words.specs.Spelled.{word, people, countOf}
@@ -35,7 +35,7 @@ module _ (m : Mem) (c : Config) (k : Shows m c) where
   events-means = k .shown .events
 
   abbrev fits : Fit (c .control)
-  fits = fit (c .control .size) (k .values) (k .reached) (k .few)
+  fits = fit (c .control .size) (k .values) (k .course) (k .few)
 
   -- a count is settled, and no larger than a word
   pub count-shown : (p : ℕ) (s : Stage) → p < c .control .size → word (countOf m p s) ≡ c .control .count p s
@@ -64,4 +64,4 @@ module _ (m : Mem) (c : Config) (k : Shows m c) where
   pub counts-add-up : (p : ℕ) → p < c .control .size
       → standing c p .sending + standing c p .collecting + standing c p .pending + standing c p .idle ≡ c .control .events
   unfolding standing total
-  counts-add-up p h = total-of (c .control .size) (k .values) (k .reached) p
+  counts-add-up p h = total-of (c .control .size) (k .values) (k .course) p

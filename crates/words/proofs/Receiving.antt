@@ -7,7 +7,7 @@ use mathlib.Core.List.{List, [], _∷_}
 use lib.Dec.{lit<}
 use Rattle.sets.specs.Sets.{with, without}
 use Rattle.rounds.specs.Limits.{window}
-use Rattle.rounds.specs.Run.{Site, Control, Content, at, at₂}
+use Rattle.rounds.specs.Config.{Site, Control, Content, at, at₂}
 use Rattle.rounds.specs.Stages.{index, tick}
 use Rattle.rounds.specs.Events.{receiveControl}
 use Rattle.rounds.specs.Allowed.{Receives}

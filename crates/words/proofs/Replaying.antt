@@ -6,7 +6,7 @@ use mathlib.Core.Bool.{Bool, true, false, cond}
 use mathlib.Core.List.{List, [], _∷_}
 use lib.ListN.{length}
 use Rattle.rounds.specs.declared.Event.{Event}
-use Rattle.rounds.specs.Run.{Config, opening, noRun}
+use Rattle.rounds.specs.Config.{Config, opening, noRun}
 use Rattle.rounds.specs.Verdicts.{accepted, openVerdict, verdict}
 use Rattle.rounds.specs.Events.{ifAccepted, apply}
 use Rattle.rounds.specs.Runs.{replay, replayVerdict, valueAt, nightVerdict, night}

@@ -6,7 +6,7 @@ use mathlib.Core.Path.{_≡_, refl, ap, _∙_}
 use mathlib.Core.Bool.{Bool, true, false, cond}
 use Rattle.voting.specs.Voting.{message}
 use Rattle.rounds.specs.Limits.{window}
-use Rattle.rounds.specs.Run.{Control, Content}
+use Rattle.rounds.specs.Config.{Control, Content}
 use Rattle.rounds.specs.Stages.{tick}
 use Rattle.rounds.specs.Verdicts.{ahead}
 use Rattle.rounds.specs.Events.{timely, sendControl, sendContent}

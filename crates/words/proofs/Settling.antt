@@ -10,7 +10,7 @@ use lib.Dec.{eqb, lit<, lit≤}
 use borrow.Author.Tests.{eq-eqb, ne-eqb}
 use Rattle.rounds.specs.declared.Stage.{Stage}
 use Rattle.rounds.specs.Limits.{mostEvents}
-use Rattle.rounds.specs.Run.{Control, Content}
+use Rattle.rounds.specs.Config.{Control, Content}
 use Rattle.rounds.specs.Stages.{sentToAll, heardFromAll, waited, stage, index, one, tick}
 use Rattle.rounds.specs.Claims.{Live}
 use Rattle.rounds.specs.Claims.Live.{waiting, taken}

@@ -5,7 +5,7 @@ use native.Mathlib.Omega.{arith}
 use mathlib.Core.Path.{_≡_, ap}
 use borrow.Author.Tests.{le-ltb}
 use Rattle.rounds.specs.Limits.{mostProcesses}
-use Rattle.rounds.specs.Run.{Site, Control, Content}
+use Rattle.rounds.specs.Config.{Site, Control, Content}
 use Rattle.rounds.specs.Stages.{sentToAll, heardFromAll, waited, stage}
 use Rattle.words.specs.Layout.{Mem, Line, Transit, get, ROUND, REACH}
 use Rattle.words.specs.Spelled.{people, siteOf, controlOf}

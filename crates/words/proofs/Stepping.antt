@@ -14,7 +14,7 @@ use Rattle.voting.specs.declared.Choice.the-variants.{Absent, Present}
 use Rattle.voting.specs.declared.Holding.{Holding}
 use Rattle.voting.specs.Voting.{rule}
 use Rattle.rounds.specs.Limits.{window, lastRound}
-use Rattle.rounds.specs.Run.{Site, Control, Content, at}
+use Rattle.rounds.specs.Config.{Site, Control, Content, at}
 use Rattle.rounds.specs.Stages.{index, tick}
 use Rattle.rounds.specs.Events.{messages, heardBy, from, stepControl, stepContent}
 use Rattle.rounds.specs.Allowed.{Steps}

@@ -7,7 +7,7 @@ use mathlib.Core.Path.{_≡_, sym, ap, _∙_, subst}
 use mathlib.Core.Bool.{true}
 use Rattle.sets.specs.Sets.{has}
 use Rattle.rounds.specs.Limits.{window}
-use Rattle.rounds.specs.Run.{Site, Config, openControl, openContent, opening}
+use Rattle.rounds.specs.Config.{Site, Config, openControl, openContent, opening}
 use Rattle.rounds.specs.Claims.{Live}
 use Rattle.rounds.specs.Claims.Live.{waiting, taken}
 use Rattle.rounds.proofs.Recorded.{Recorded, recorded}
@@ -38,11 +38,11 @@ module _ (m : Mem) (c e : Config) (k : Shows m c) (l : Shows m e) where
           sym (k .shown .each p h .transit r low high)
           ∙ l .shown .each p (inside p h) .transit r (omega (arith, same-round)) (omega (arith, same-round))
       go (no n) any =
-          window-of (c .control .size) (k .values) (k .reached) p r .0 (omega arith)
-          ∙ sym (window-of (e .control .size) (l .values) (l .reached) p r .0 (omega (arith, same-round)))
+          window-of (c .control .size) (k .values) (k .course) p r .0 (omega arith)
+          ∙ sym (window-of (e .control .size) (l .values) (l .course) p r .0 (omega (arith, same-round)))
       go (yes low) (no n) =
-          window-of (c .control .size) (k .values) (k .reached) p r .1 (omega arith)
-          ∙ sym (window-of (e .control .size) (l .values) (l .reached) p r .1 (omega (arith, same-round)))
+          window-of (c .control .size) (k .values) (k .course) p r .1 (omega arith)
+          ∙ sym (window-of (e .control .size) (l .values) (l .course) p r .1 (omega (arith, same-round)))
 
   same-live : (p r q : ℕ) → p < c .control .size → Live (c .control) p r q → Live (e .control) p r q
   same-live p r q h (waiting t) = waiting (rw (same-transit p r h) at t)
@@ -64,4 +64,4 @@ module _ (m : Mem) (c e : Config) (k : Shows m c) (l : Shows m e) where
 
 pub shown-run : (m : Mem) (c : Config) (k : Shows m c) → Recorded (opening (c .control .size) (k .values)) c
 unfolding opening
-shown-run m c k = recorded (openControl (c .control .size)) (openContent (k .values)) (k .reached)
+shown-run m c k = recorded (openControl (c .control .size)) (openContent (k .values)) (k .course)

@@ -15,7 +15,7 @@ use Rattle.rounds.specs.declared.Event.{Event}
 use Rattle.rounds.specs.declared.Event.the-variants.{Send, Receive, Step, Broadcast}
 use Rattle.rounds.specs.declared.Verdict.{Verdict}
 use Rattle.rounds.specs.declared.Verdict.the-variants.{Accepted}
-use Rattle.rounds.specs.Run.{Control}
+use Rattle.rounds.specs.Config.{Control}
 use Rattle.rounds.specs.Stages.{stage, index}
 use Rattle.rounds.specs.Verdicts.{openVerdict, ahead, verdict}
 use Rattle.rounds.specs.Events.{timely, gathered, messages, ifAccepted}

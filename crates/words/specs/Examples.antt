@@ -7,7 +7,7 @@ use lib.ListN.{length}
 use Rattle.rounds.specs.declared.Event.{Event}
 use Rattle.rounds.specs.declared.Event.the-variants.{Send, Receive, Step, Broadcast}
 use Rattle.rounds.specs.Verdicts.{numberOf, openVerdict, verdict}
-use Rattle.rounds.specs.Run.{Control, Config}
+use Rattle.rounds.specs.Config.{Control, Config}
 use Rattle.rounds.specs.Events.{ifAccepted, apply}
 use Rattle.rounds.specs.Runs.{told}
 use Rattle.rounds.specs.Examples.{run, equal, lines, roundOfTwo, alone, sevenAndFour, sevenFourTwo, oneOneZero, apart, together, split, whole, trace1, overtaken}

@@ -11,11 +11,11 @@ use Rattle.rounds.specs.declared.Event.the-variants.{Send, Receive, Step, Broad
 use Rattle.rounds.specs.declared.Verdict.{Verdict}
 use Rattle.rounds.specs.declared.Verdict.the-variants.{Accepted}
 use Rattle.rounds.specs.Limits.{mostProcesses, window}
-use Rattle.rounds.specs.Run.{Control, Content, Config}
+use Rattle.rounds.specs.Config.{Control, Content, Config}
 use Rattle.rounds.specs.Stages.{stage, index, one}
 use Rattle.rounds.specs.Events.{apply}
 use Rattle.rounds.specs.Runs.{Report}
-use Rattle.rounds.specs.Leads.{Reached}
+use Rattle.rounds.specs.Course.{FromOpening}
 use Rattle.rounds.specs.Claims.{Live}
 use Rattle.words.specs.declared.Answer.{Answer}
 use Rattle.words.specs.declared.Answer.the-variants.{Judged, Finished}
@@ -46,7 +46,7 @@ pub record Shown (m : Mem) (c : Control) (d : Content) : Type 0 where
 pub record Shows (m : Mem) (c : Config) : Type 0 where
   pub values : ℕ → ℕ
   pub reports : List Report
-  pub reached : Reached (c .control .size) values (c .control) (c .content) reports
+  pub course : FromOpening (c .control .size) values (c .control) (c .content) reports
   pub few : c .control .size ≤ mostProcesses
   pub shown : Shown m (c .control) (c .content)
 

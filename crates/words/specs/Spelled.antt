@@ -9,7 +9,7 @@ use Rattle.voting.specs.declared.Message.{Message}
 use Rattle.voting.specs.declared.Holding.{Holding}
 use Rattle.rounds.specs.declared.Stage.{Stage}
 use Rattle.rounds.specs.Limits.{mostProcesses}
-use Rattle.rounds.specs.Run.{Site, Control}
+use Rattle.rounds.specs.Config.{Site, Control}
 use Rattle.rounds.specs.Stages.{stage, index, one}
 use Rattle.words.specs.Layout.{Mem, Head, Line, Transit, Mail, get, SIZE, EVENTS, VALUE, VOTED, VOTE, DECIDED, DECISION, ROUND, SENT, HEARD, REACH, SINCE, COUNTS, CARRIED}
 

@@ -5,7 +5,7 @@ use mathlib.Core.Path.{refl, sym}
 use lib.ListN.{getD-replicate}
 use Rattle.rounds.specs.Verdicts.{openVerdict}
 use Rattle.rounds.specs.declared.Event.the-variants.{Send, Receive, Step, Broadcast}
-use Rattle.rounds.specs.Run.{opening}
+use Rattle.rounds.specs.Config.{opening}
 use Rattle.rounds.specs.Events.{apply}
 use Rattle.rounds.specs.Examples.{run}
 use borrow.Author.Needs.{needs}

@@ -2,7 +2,7 @@
 -- Assumes nothing.
 use lib.Dec.{lit<}
 use Rattle.rounds.specs.declared.Event.the-variants.{Send, Receive, Step, Broadcast}
-use Rattle.rounds.specs.Run.{opening}
+use Rattle.rounds.specs.Config.{opening}
 use Rattle.rounds.specs.Events.{apply}
 use Rattle.rounds.specs.Runs.{valueAt}
 use Rattle.rounds.specs.Examples.{sevenAndFour, run}

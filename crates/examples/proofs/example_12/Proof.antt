@@ -1,7 +1,7 @@
 -- `example_12` finds what document 01 says, event by event.
 -- Assumes nothing.
 use Rattle.rounds.specs.declared.Event.the-variants.{Send, Receive, Broadcast}
-use Rattle.rounds.specs.Run.{opening}
+use Rattle.rounds.specs.Config.{opening}
 use Rattle.rounds.specs.Events.{apply}
 use Rattle.rounds.specs.Runs.{valueAt}
 use Rattle.rounds.specs.Examples.{sevenAndFour, run}

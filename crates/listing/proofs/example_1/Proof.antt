@@ -4,7 +4,7 @@ use Prim.Native.Nat.{ℕ}
 use mathlib.Core.Path.{_≡_, subst}
 use mathlib.Core.List.{List, [], _∷_}
 use lib.Dec.{lit<}
-use Rattle.rounds.specs.Run.{Config}
+use Rattle.rounds.specs.Config.{Config}
 use Rattle.rounds.specs.Verdicts.{numberOf, openVerdict}
 use Rattle.rounds.specs.Runs.{nightVerdict, night}
 use Rattle.rounds.specs.Examples.{sevenAndFour, trace1, run}

@@ -4,7 +4,7 @@ use Prim.Native.Nat.{ℕ, _≤_, _-_}
 use native.Mathlib.Omega.{arith}
 use mathlib.Core.Path.{_≡_, _∙_, ap}
 use lib.ListN.{length}
-use Rattle.rounds.specs.Run.{opening}
+use Rattle.rounds.specs.Config.{opening}
 use Rattle.rounds.specs.Verdicts.{openVerdict}
 use Rattle.rounds.specs.Runs.{after}
 use Rattle.words.specs.Shows.{Shows, Given}

@@ -39,7 +39,7 @@ same-length-2 : tie.Need-same-length-2
 same-length-2 c = search needs
 
 returns-2 : tie.Need-returns-2
-returns-2 c = given-up (c .before .before .before .before .before .before .before .before .before .before .before .before .args .window .now) (c .before .before .before .before .before .before .before .write .result .used) _ _ (c .before .before .before .before .before .before .before .write .ensures .within)
+returns-2 c = given-up (c .before .before .before .before .before .before .before .before .before .before .before .before .args .bytes .now) (c .before .before .before .before .before .before .before .write .result .used) _ _ (c .before .before .before .before .before .before .before .write .ensures .within)
 
 pub print-spec : {M : Type 1} → statement M
 print-spec =

@@ -1,4 +1,4 @@
--- `print_all` writes piece after piece; each brings it nearer to the end of the window.
+-- `print_all` writes piece after piece; each brings it nearer to the end of the bytes.
 -- Assumes nothing.
 use Prim.Native.Nat.{_+_, _≤_}
 use native.Mathlib.Omega.{arith}
@@ -11,10 +11,10 @@ use Rattle.sheet.proofs.print_all.Statement.{statement}
 use Rattle.sheet.proofs.print_all.Tie as tie
 
 abbrev Inv-loop : tie.InvT-loop
-Inv-loop run₀ window last out₀ used₀ here₀ run out used here = (used ≤ length window) × (length out ≡ length out₀)
+Inv-loop run₀ bytes last out₀ used₀ here₀ run out used here = (used ≤ length bytes) × (length out ≡ length out₀)
 
 abbrev μ-loop : tie.MeasureT-loop
-μ-loop run₀ window last out₀ used₀ here₀ run out used here = ahead here run (drop used window)
+μ-loop run₀ bytes last out₀ used₀ here₀ run out used here = ahead here run (drop used bytes)
 
 loop-holds : tie.Need-loop-holds Inv-loop μ-loop
 loop-holds c = (omega arith, refl)
@@ -31,13 +31,13 @@ part-print-end c = search needs
 print-requires : tie.Need-print-requires Inv-loop μ-loop
 print-requires c κs = search needs
 
--- behind a piece the place is within the window still, and the buffer is as long as it was
+-- behind a piece the place is within the bytes still, and the buffer is as long as it was
 so : (c : tie.After-print Inv-loop μ-loop)
     → let a = c .before .before .before .before .before .before .before .args in
-    (c .before .before .before .before .loop .used + c .print .result .used ≤ length (a .window .now)) × (length (c .print .last .1 .1 .1 .1 .0) ≡ length (a .out .now))
+    (c .before .before .before .before .loop .used + c .print .result .used ≤ length (a .bytes .now)) × (length (c .print .last .1 .1 .1 .1 .0) ≡ length (a .out .now))
 so c =
     let l = c .before .before .before .before .loop in
-    (within (c .before .before .before .before .before .before .before .args .window .now) (l .used) _ (l .inv .0) (c .print .ensures .0), c .print .kept .1 .1 .1 .1 .0 ∙ l .inv .1)
+    (within (c .before .before .before .before .before .before .before .args .bytes .now) (l .used) _ (l .inv .0) (c .print .ensures .0), c .print .kept .1 .1 .1 .1 .0 ∙ l .inv .1)
 
 add-used : tie.Need-add-used Inv-loop μ-loop
 add-used c = let far = so (c .before .before .before) in omega (arith, far .0)
@@ -49,7 +49,7 @@ loop-less : tie.Need-loop-less Inv-loop μ-loop
 loop-less c =
     let l = c .before .before .before .before .before .before .before .before .before .loop in
     let p = c .before .before .before .before .before .print in
-    nearer (c .before .before .before .before .before .before .before .before .before .before .before .before .args .window .now) (l .used) (p .result .used) (l .inv .0) (l .here) (p .result .stand) (l .run) (p .last .0) (p .ensures .2 (c .enum-told .given .1))
+    nearer (c .before .before .before .before .before .before .before .before .before .before .before .before .args .bytes .now) (l .used) (p .result .used) (l .inv .0) (l .here) (p .result .stand) (l .run) (p .last .0) (p .ensures .2 (c .enum-told .given .1))
 
 loop-again : tie.Need-loop-again Inv-loop μ-loop
 loop-again c = so (c .before .before .before .before .before)
@@ -64,7 +64,7 @@ returns : tie.Need-returns Inv-loop μ-loop
 returns c =
     let p = c .before .before .before .before .before in
     let l = p .before .before .before .before .loop in
-    (so p .0, λ i. short (p .before .before .before .before .before .before .before .args .window .now) (l .used) _ (l .inv .0) (p .print .ensures .1 (c .enum-told2 .given .1)))
+    (so p .0, λ i. short (p .before .before .before .before .before .before .before .args .bytes .now) (l .used) _ (l .inv .0) (p .print .ensures .1 (c .enum-told2 .given .1)))
 
 enum-told-3 : tie.Need-enum-told-3 Inv-loop μ-loop
 enum-told-3 c = search needs
@@ -73,7 +73,7 @@ same-length-2 : tie.Need-same-length-2 Inv-loop μ-loop
 same-length-2 c = so (c .before .before .before .before .before) .1
 
 returns-2 : tie.Need-returns-2 Inv-loop μ-loop
-returns-2 c = let p = c .before .before .before .before .before in not-input (p .before .before .before .before .before .before .before .args .window .now) _ (so p .0)
+returns-2 c = let p = c .before .before .before .before .before in not-input (p .before .before .before .before .before .before .before .args .bytes .now) _ (so p .0)
 
 pub print-all-spec : {M : Type 1} → statement M
 print-all-spec =

@@ -11,10 +11,10 @@ use Rattle.sheet_text.proofs.follow.Statement.{statement}
 use Rattle.sheet_text.proofs.follow.Tie as tie
 
 abbrev Inv-loop : tie.InvT-loop
-Inv-loop run₀ window last out₀ used₀ written₀ here₀ run out used written here = Gone last (Pieces.follow last (length out₀) 0 here₀ run₀ window) out₀ window here run out used written
+Inv-loop run₀ bytes last out₀ used₀ written₀ here₀ run out used written here = Gone last (Pieces.follow last (length out₀) 0 here₀ run₀ bytes) out₀ bytes here run out used written
 
 abbrev μ-loop : tie.MeasureT-loop
-μ-loop run₀ window last out₀ used₀ written₀ here₀ run out used written here = length window - used
+μ-loop run₀ bytes last out₀ used₀ written₀ here₀ run out used written here = length bytes - used
 
 loop-holds : tie.Need-loop-holds Inv-loop μ-loop
 loop-holds c = none-gone _ _ _ _ _
@@ -62,7 +62,7 @@ turn : (c : tie.After-one-record Inv-loop μ-loop)
     → let a = c .before .before .before .before .before .before .before .before .before .before .args in
     let l = c .before .before .before .before .before .before .before .loop in
     let h = c .before .before .before .hasten in
-    Turned (a .last) (Pieces.follow (a .last) (length (a .out .now)) 0 (a .place) (a .run .now) (a .window .now)) (a .out .now) (a .window .now)
+    Turned (a .last) (Pieces.follow (a .last) (length (a .out .now)) 0 (a .place) (a .run .now) (a .bytes .now)) (a .out .now) (a .bytes .now)
     (l .here) (h .last .0) (c .one-record .last .0) (l .out) (l .used + h .result) (l .written) (c .one-record .result)
 turn c =
     let wide = c .before .before .before .before .before .before .if1 .left in

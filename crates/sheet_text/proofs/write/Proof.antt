@@ -1,7 +1,7 @@
 -- `write` is the piece of where the writing stands.
 -- Assumes nothing.
 use Rattle.lines.specs.Pieces as Pieces
-use Rattle.sheet_text.proofs.Pacing.{any-window}
+use Rattle.sheet_text.proofs.Pacing.{any-bytes}
 use borrow.Author.Needs.{needs}
 use Rattle.sheet_text.proofs.write.Statement.{statement}
 use Rattle.sheet_text.proofs.write.Tie as tie
@@ -30,7 +30,7 @@ same-length-2 c = search needs
 
 returns-2 : tie.Need-returns-2
 unfolding Pieces.piece
-returns-2 c = rw (c .before .before .before .before .before .before .stand2 .given .1) (any-window _ _ _ _ _ (c .before .before .close .ensures))
+returns-2 c = rw (c .before .before .before .before .before .before .stand2 .given .1) (any-bytes _ _ _ _ _ (c .before .before .close .ensures))
 
 pub write-spec : {M : Type 1} → statement M
 write-spec =

@@ -12,8 +12,8 @@ enum-told c = search needs
 enum-told-2 : tie.Need-enum-told-2
 enum-told-2 c = search needs
 
-swiftly-requires : tie.Need-swiftly-requires
-swiftly-requires c κs = search needs
+hasten-all-requires : tie.Need-hasten-all-requires
+hasten-all-requires c κs = search needs
 
 enum-told-3 : tie.Need-enum-told-3
 enum-told-3 c = search needs
@@ -24,7 +24,7 @@ returns c = rw (c .enum-told .given .1) (refl, refl)
 
 returns-2 : tie.Need-returns-2
 unfolding Haste.haste
-returns-2 c = rw (c .before .before .enum-told2 .given .1) (c .swiftly .ensures)
+returns-2 c = rw (c .before .before .enum-told2 .given .1) (c .hasten-all .ensures)
 
 returns-3 : tie.Need-returns-3
 unfolding Haste.haste Haste.stays
@@ -33,4 +33,4 @@ returns-3 c = rw (c .enum-told3 .given .1) (refl, refl)
 pub hasten-spec : {M : Type 1} → statement M
 hasten-spec =
     tie.close
-    (tie.spec enum-told enum-told-2 swiftly-requires enum-told-3 returns returns-2 returns-3)
+    (tie.spec enum-told enum-told-2 hasten-all-requires enum-told-3 returns returns-2 returns-3)

@@ -4,14 +4,14 @@ use Prim.Native.Nat.{_+_, _-_}
 use native.Mathlib.Omega.{arith}
 use mathlib.Core.Path.{_∙_}
 use lib.ListN.{length}
-use Rattle.trace.proofs.Looping.{Reached, hastened, Taken, taken, goes-far, goes-on, more-last, ends-last}
+use Rattle.trace.proofs.Looping.{ComeTo, hastened, Taken, taken, goes-far, goes-on, more-last, ends-last}
 use Rattle.trace.proofs.Meaning.{replay-meant}
 use borrow.Author.Needs.{needs}
 use Rattle.trace.proofs.replay.Statement.{statement}
 use Rattle.trace.proofs.replay.Tie as tie
 
 abbrev Inv-loop : tie.InvT-loop
-Inv-loop run₀ trace at₀ place₀ run at place = Reached trace place run at
+Inv-loop run₀ trace at₀ place₀ run at place = ComeTo trace place run at
 
 abbrev μ-loop : tie.MeasureT-loop
 μ-loop run₀ trace at₀ place₀ run at place = length trace - at

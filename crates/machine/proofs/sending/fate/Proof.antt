@@ -8,7 +8,7 @@ use Rattle.rounds.specs.Limits.{window}
 use Rattle.rounds.specs.Verdicts.{ahead}
 use Rattle.rounds.specs.Events.{timely}
 use Rattle.words.specs.Calls.{fate}
-use Rattle.machine.proofs.Lead.{lead-fits, lead-late, lead-reached, lead-below, lead-from, lead-word}
+use Rattle.machine.proofs.Lead.{lead-fits, lead-late, lead-not-late, lead-below, lead-from, lead-word}
 use borrow.Author.Needs.{needs}
 use Rattle.machine.proofs.sending.fate.Statement.{statement}
 use Rattle.machine.proofs.sending.fate.Tie as tie
@@ -38,9 +38,9 @@ unfolding fate timely ahead
 returns-2 c =
     let r = c .before .before .args .r in
     let s = c .before .before .args .s in
-    let reached = lead-reached r s (c .before .before .fits .r .fits) (c .before .before .fits .s .fits) (c .before .if1 .left) in
-    let below = lead-below r s (c .before .before .fits .r .fits) (c .before .before .fits .s .fits) reached window (c .if2 .taken) in
-    rw (le-leb s r reached, lt-ltb r (s + window) below)
+    let low = lead-not-late r s (c .before .before .fits .r .fits) (c .before .before .fits .s .fits) (c .before .if1 .left) in
+    let below = lead-below r s (c .before .before .fits .r .fits) (c .before .before .fits .s .fits) low window (c .if2 .taken) in
+    rw (le-leb s r low, lt-ltb r (s + window) below)
 
 cast-if3 : tie.Need-cast-if3
 cast-if3 c = search needs
@@ -50,20 +50,20 @@ unfolding fate timely ahead
 returns-3 c =
     let r = c .before .before .before .args .r in
     let s = c .before .before .before .args .s in
-    let reached = lead-reached r s (c .before .before .before .fits .r .fits) (c .before .before .before .fits .s .fits) (c .before .before .if1 .left) in
-    let from = lead-from r s (c .before .before .before .fits .r .fits) (c .before .before .before .fits .s .fits) reached window (c .before .if2 .left) in
-    let word = lead-word r s (c .before .before .before .fits .r .fits) (c .before .before .before .fits .s .fits) reached in
-    rw (le-leb s r reached, le-ltb r (s + window) from, eq-eqb r (s + window) (let e = sym word ∙ c .if3 .taken in omega arith))
+    let low = lead-not-late r s (c .before .before .before .fits .r .fits) (c .before .before .before .fits .s .fits) (c .before .before .if1 .left) in
+    let from = lead-from r s (c .before .before .before .fits .r .fits) (c .before .before .before .fits .s .fits) low window (c .before .if2 .left) in
+    let word = lead-word r s (c .before .before .before .fits .r .fits) (c .before .before .before .fits .s .fits) low in
+    rw (le-leb s r low, le-ltb r (s + window) from, eq-eqb r (s + window) (let e = sym word ∙ c .if3 .taken in omega arith))
 
 returns-4 : tie.Need-returns-4
 unfolding fate timely ahead
 returns-4 c =
     let r = c .before .before .before .args .r in
     let s = c .before .before .before .args .s in
-    let reached = lead-reached r s (c .before .before .before .fits .r .fits) (c .before .before .before .fits .s .fits) (c .before .before .if1 .left) in
-    let from = lead-from r s (c .before .before .before .fits .r .fits) (c .before .before .before .fits .s .fits) reached window (c .before .if2 .left) in
-    let word = lead-word r s (c .before .before .before .fits .r .fits) (c .before .before .before .fits .s .fits) reached in
-    rw (le-leb s r reached, le-ltb r (s + window) from, ne-eqb r (s + window) (λ e. c .if3 .left (word ∙ omega arith)))
+    let low = lead-not-late r s (c .before .before .before .fits .r .fits) (c .before .before .before .fits .s .fits) (c .before .before .if1 .left) in
+    let from = lead-from r s (c .before .before .before .fits .r .fits) (c .before .before .before .fits .s .fits) low window (c .before .if2 .left) in
+    let word = lead-word r s (c .before .before .before .fits .r .fits) (c .before .before .before .fits .s .fits) low in
+    rw (le-leb s r low, le-ltb r (s + window) from, ne-eqb r (s + window) (λ e. c .if3 .left (word ∙ omega arith)))
 
 pub fate-spec : {M : Type 1} → statement M
 fate-spec =

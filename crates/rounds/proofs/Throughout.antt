@@ -13,14 +13,14 @@ use Rattle.rounds.specs.declared.Stage.the-variants.{Sending, Collecting
 use Rattle.rounds.specs.declared.Event.{Event}
 use Rattle.rounds.specs.declared.Event.the-variants.{Step}
 use Rattle.rounds.specs.Limits.{window, lastRound, mostEvents}
-use Rattle.rounds.specs.Run.{Control, Config, openControl, opening}
+use Rattle.rounds.specs.Config.{Control, Config, openControl, opening}
 use Rattle.rounds.specs.Stages.{stage}
 use Rattle.rounds.specs.Verdicts.{accepted, verdict}
 use Rattle.rounds.specs.Events.{gathered, messages, nextControl, nextContent, apply}
 use Rattle.rounds.specs.Allowed.{Sends}
 use Rattle.rounds.specs.Claims.{ran, Everyone, Live, Moment, Had, moments, times, total}
 use Rattle.rounds.specs.Claims.Live.{taken}
-use Rattle.rounds.proofs.Leading.{leads, reached}
+use Rattle.rounds.proofs.MadeOfThree.{course, run-course}
 use Rattle.rounds.proofs.Kept.{Kept, kept}
 use Rattle.rounds.proofs.Limits.{size-stays, rounds-kept, events-kept, Window, window-kept, open-window, in-window, Within, within-kept, open-within}
 use Rattle.rounds.proofs.Lead.{led-kept, open-led}
@@ -29,7 +29,7 @@ use Rattle.rounds.proofs.Reach.{reach-grows, own-reach}
 use Rattle.rounds.proofs.Live.{not-live, open-silent, live-from}
 use Rattle.rounds.proofs.Mail.{spoken-fresh, mail-true}
 use Rattle.rounds.proofs.Table.{Once, once-kept, open-once, at-sending, at-collecting, at-pending, at-idle}
-use Rattle.rounds.proofs.Running.{after-append, apply-accepted}
+use Rattle.rounds.proofs.After.{after-append, apply-accepted}
 use Rattle.rounds.proofs.Moments.{moment}
 use Rattle.rounds.proofs.Effects.{step-votes, step-reaches}
 
@@ -39,11 +39,11 @@ module _ (n : ℕ) (v : ℕ → ℕ) (es : List Event) where
 
   -- what every event keeps and the opening has, the run has
   throughout : (I : Control → Type 0) → Kept (λ c d. I c) → I (openControl n) → I now
-  throughout I k i = kept (λ c d. I c) k (reached n v es) i
+  throughout I k i = kept (λ c d. I c) k (run-course n v es) i
 
   size-in : now .size ≡ n
   unfolding openControl
-  size-in = size-stays (reached n v es)
+  size-in = size-stays (run-course n v es)
 
   -- ---- the limits
   pub lead-in : (p q : ℕ) → p < n → q < n → now .site p .round ≤ now .site q .round + window
@@ -82,10 +82,10 @@ module _ (n : ℕ) (v : ℕ → ℕ) (es : List Event) where
   reach-in p h = let size = size-in in rw size-in at (within-in .reach p (omega arith))
 
   pub own-in : (p : ℕ) → has (now .site p .reach) p ≡ true
-  own-in = own-reach n v (reached n v es)
+  own-in = own-reach n v (run-course n v es)
 
   pub reach-grows-in : (later : List Event) (p q : ℕ) → has (now .site p .reach) q ≡ true → has (ran n v (es ++ later) .control .site p .reach) q ≡ true
-  reach-grows-in later p q t = rw (after-append (opening n v) es later) (reach-grows (leads (ran n v es) later) p q t)
+  reach-grows-in later p q t = rw (after-append (opening n v) es later) (reach-grows (course (ran n v es) later) p q t)
 
   -- ---- the counts
   pub count-in : (p : ℕ) (s : Stage) → now .count p s ≡ times p s (moments (openControl n) es)
@@ -98,7 +98,7 @@ module _ (n : ℕ) (v : ℕ → ℕ) (es : List Event) where
 
   -- ---- the stages
   once-in : Once now
-  once-in = kept _ once-kept (reached n v es) ((λ x r y l. absurd (open-silent n x r y l)), open-once n) .1
+  once-in = kept _ once-kept (run-course n v es) ((λ x r y l. absurd (open-silent n x r y l)), open-once n) .1
 
   all-in : (s : ℕ) → Everyone n s → Everyone (now .size) s
   all-in s all q h = let size = size-in in all q (omega arith)
@@ -122,10 +122,10 @@ module _ (n : ℕ) (v : ℕ → ℕ) (es : List Event) where
   moment-in x r y l =
       let least = live-from now window-in x r y l in
       let first = rounds-in x .0 in
-      moment (opening n v) es y r (omega arith) (spoken-fresh n v (reached n v es) .0 x r y l .0)
+      moment (opening n v) es y r (omega arith) (spoken-fresh n v (run-course n v es) .0 x r y l .0)
 
   pub not-live-in : (p q : ℕ) → Live now q (now .site p .round) p → Sends now p q → ⊥
-  not-live-in p q l h = not-live now p q (spoken-fresh n v (reached n v es) .0) h l
+  not-live-in p q l h = not-live now p q (spoken-fresh n v (run-course n v es) .0) h l
 
 pub mail-in : (n : ℕ) (v : ℕ → ℕ) (es : List Event) (x r y : ℕ) → Live (ran n v es .control) x r y
     → (earlier later : List Event) → earlier ++ later ≡ es → ran n v earlier .control .site y .round ≡ r
@@ -133,7 +133,7 @@ pub mail-in : (n : ℕ) (v : ℕ → ℕ) (es : List Event) (x r y : ℕ) → Li
     × (ran n v es .control .carried x r y ≡ ran n v earlier .control .site y .reach)
 mail-in n v es x r y l earlier later whole round =
     rw (← whole, after-append (opening n v) earlier later, ← round)
-    (mail-true n v (reached n v earlier) (leads (ran n v earlier) later) x y
+    (mail-true n v (run-course n v earlier) (course (ran n v earlier) later) x y
     (rw (← whole, after-append (opening n v) earlier later, ← round) at l))
 
 -- ---- a step: it goes by what the senders it heard had in that round

@@ -1,10 +1,10 @@
--- `swift` reads tag and length as one number, and hands a send or a receive to the machine.
+-- `hasten_one` reads tag and length as one number, and hands a send or a receive to the machine.
 -- Assumes nothing.
 use native.Mathlib.Omega.{arith}
 use Rattle.trace.proofs.Hastening.{too-few, Numbered, found-send, found-receive, found-none}
 use borrow.Author.Needs.{needs}
-use Rattle.trace.proofs.swift.Statement.{statement}
-use Rattle.trace.proofs.swift.Tie as tie
+use Rattle.trace.proofs.hasten_one.Statement.{statement}
+use Rattle.trace.proofs.hasten_one.Tie as tie
 
 returns : tie.Need-returns
 returns c = let a = c .before .before .args in too-few (a .run .now) (a .bytes .now) (c .if1 .taken)
@@ -57,8 +57,8 @@ returns-3 c =
 returns-4 : tie.Need-returns-4
 returns-4 c = found-none (c .before .before .before .before .before .args .run .now) (numbered (c .before .before)) (c .before .if2 .left) (c .if3 .left)
 
-pub swift-spec : {M : Type 1} → statement M
-swift-spec =
+pub hasten-one-spec : {M : Type 1} → statement M
+hasten-one-spec =
     tie.close
     (tie.spec
     returns

@@ -10,7 +10,7 @@ use Rattle.rounds.specs.declared.Event.the-variants.{Send, Broadcast}
 use Rattle.rounds.specs.declared.Verdict.{Verdict}
 use Rattle.rounds.specs.declared.Verdict.the-variants.{Accepted}
 use Rattle.rounds.specs.Limits.{mostEvents}
-use Rattle.rounds.specs.Run.{Config}
+use Rattle.rounds.specs.Config.{Config}
 use Rattle.rounds.specs.Verdicts.{accepted, sendVerdict, firstRefusal, verdict}
 use Rattle.rounds.specs.Events.{sendsControl, sendsContent, nextControl, nextContent, ifAccepted, applyControl, applyContent, apply}
 use Rattle.rounds.specs.Runs.{after, replay, replayVerdict, heeded, sends}
