@@ -14,6 +14,7 @@ use Rattle.rounds.specs.Config.{Config}
 use Rattle.rounds.specs.Verdicts.{accepted, sendVerdict, firstRefusal, verdict}
 use Rattle.rounds.specs.Events.{sendsControl, sendsContent, nextControl, nextContent, ifAccepted, applyControl, applyContent, apply}
 use Rattle.rounds.specs.Runs.{after, replay, replayVerdict, heeded, sends}
+use Rattle.rounds.specs.Allowed.{Allowed}
 use Rattle.rounds.specs.Claims.{Stop}
 use Rattle.rounds.proofs.Answers.{accepted-is, is-accepted, none-refused, send-plain, broadcast-plain, allowed, allows}
 use Rattle.rounds.proofs.Broadcasts.{sends-size, sends-events, sends-verdict, each-sends}
@@ -39,6 +40,15 @@ apply-accepted c e a = ap (both c e) a
 pub apply-refused : (c : Config) (e : Event) → accepted (verdict (c .control) e) ≡ false → apply c e ≡ c
 unfolding apply applyControl applyContent ifAccepted
 apply-refused c e a = ap (both c e) a
+
+-- one more accepted event behind others
+pub after-more : (c₀ c : Config) (es : List Event) (e : Event) → after c₀ es ≡ c → Allowed (c .control) e
+    → after c₀ (es ++ (e ∷ [])) ≡ record { control = nextControl (c .control) e; content = nextContent (c .control) (c .content) e }
+unfolding after
+after-more c₀ c es e ends h =
+    after-append c₀ es (e ∷ [])
+    ∙ ap (λ (b : Config). apply b e) ends
+    ∙ apply-accepted c e (accepted-is _ (allows (c .control) e h))
 
 -- ---- a broadcast
 module _ (c : Config) (p : ℕ) where

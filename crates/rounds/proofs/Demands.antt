@@ -13,22 +13,26 @@ use Rattle.voting.specs.Voting.{message, rule}
 use Rattle.rounds.specs.declared.Stage.{Stage}
 use Rattle.rounds.specs.declared.Stage.the-variants.{Sending, Collecting, Pending, Idle}
 use Rattle.rounds.specs.declared.Event.{Event}
-use Rattle.rounds.specs.declared.Event.the-variants.{Send, Step, Broadcast}
+use Rattle.rounds.specs.declared.Event.the-variants.{Send, Receive, Step, Broadcast}
 use Rattle.rounds.specs.declared.Verdict.the-variants.{Accepted}
 use Rattle.rounds.specs.Limits.{window, lastRound, mostEvents}
 use Rattle.rounds.specs.Config.{Control, Content, Config, openControl, opening}
 use Rattle.rounds.specs.Stages.{stage, tick}
 use Rattle.rounds.specs.Verdicts.{openVerdict, verdict}
 use Rattle.rounds.specs.Events.{sendControl, sendContent, gathered, messages, apply}
-use Rattle.rounds.specs.Runs.{after, verdicts, Report, reports, replay, replayVerdict, heeded, valueAt, nightVerdict, night, nightReports, sends}
+use Rattle.rounds.specs.Runs.{after, verdicts, Report, reports, replay, replayVerdict, heeded, valueAt, nightVerdict, night, nightReports, sends, deeds}
 use Rattle.rounds.specs.Allowed.{Opens, Sends, Allowed}
 use Rattle.rounds.specs.Course.{Course, FromOpening}
-use Rattle.rounds.specs.Claims.{ran, Everyone, Live, Stop, Moment, Had, moments, times, total, Agree}
+use Rattle.rounds.specs.Effects.{Posts, Takes, Advances}
+use Rattle.rounds.specs.Claims.{ran, Everyone, Live, SinceStep, SentTo, Underway, Had, Stop, moments, times, total, Agree}
 use Rattle.rounds.proofs.Answers.{accepted-is, refused-is, opens-right, right-opens, allowed, allows}
 use Rattle.rounds.proofs.MadeOfThree.{run-course}
 use Rattle.rounds.proofs.Live.{written-once}
 use Rattle.rounds.proofs.After.{apply-refused, broadcast-sends, broadcast-first, replay-whole, replay-stops, replay-heeded}
-use Rattle.rounds.proofs.Effects.{posts-kept, posts-late}
+use Rattle.rounds.proofs.Effects.{send-does, receive-does, step-does}
+use Rattle.rounds.proofs.Deeds.{after-deeds}
+use Rattle.rounds.proofs.History.{sent-since, heard-since}
+use Rattle.rounds.proofs.Underway.{transit-since, live-sent}
 use Rattle.rounds.proofs.Throughout as throughout
 use Rattle.rounds.proofs.Independence.{same-control, same-verdicts, same-reports, same-holding}
 use Rattle.rounds.proofs.Nights.{same-verdict, same-night, same-told, same-held}
@@ -136,32 +140,59 @@ pub reach-never-shrinks : (n : ℕ) (v : ℕ → ℕ) (es later : List Event) (p
     → has (ran n v es .control .site p .reach) q ≡ true → has (ran n v (es ++ later) .control .site p .reach) q ≡ true
 reach-never-shrinks = throughout.reach-grows-in
 
--- ---- what a send puts in transit
-pub record Posts (c : Config) (p q : ℕ) : Type 0 where
-  -- with a lead of 0 to 7 the message is in transit for the sender's round, and carries the value, vote and reach that the sender has
-  pub kept : c .control .site q .round ≤ c .control .site p .round → c .control .site p .round < c .control .site q .round + window
-      → (has (apply c (Send p q) .control .transit q (c .control .site p .round)) p ≡ true)
-      × (apply c (Send p q) .content .mail q (c .control .site p .round) p ≡ message (c .content .holding p))
-      × (apply c (Send p q) .control .carried q (c .control .site p .round) p ≡ c .control .site p .reach)
-  -- with a lead below 0 it is late, and what is in transit stays as it was
-  pub late : c .control .site p .round < c .control .site q .round
-      → (apply c (Send p q) .control .transit ≡ c .control .transit) × (apply c (Send p q) .content .mail ≡ c .content .mail)
+-- ---- what an accepted event does, whole: what changes and what stays as it was
+-- a send: the sender's sent set, and the message that it posts with what the sender has, if it is in time
+pub send-posts : (c : Config) (p q : ℕ) → verdict (c .control) (Send p q) ≡ Accepted → Posts c (apply c (Send p q)) p q
+send-posts c p q a = send-does c p q (accepted-is _ a)
 
-pub send-posts : (c : Config) (p q : ℕ) → verdict (c .control) (Send p q) ≡ Accepted → Posts c p q
-send-posts c p q a = record { kept = posts-kept c p q (accepted-is _ a); late = posts-late c p q (accepted-is _ a) }
+-- a receive: the receiver's heard set, and the one message that leaves transit
+pub receive-takes : (c : Config) (p q : ℕ) → verdict (c .control) (Receive p q) ≡ Accepted → Takes c (apply c (Receive p q)) p q
+receive-takes c p q a = receive-does c p q (accepted-is _ a)
+
+-- a step: the next round, with both sets empty, by the rule on the messages heard; what was in transit for older rounds is gone
+pub step-advances : (c : Config) (p : ℕ) → verdict (c .control) (Step p) ≡ Accepted → Advances c (apply c (Step p)) p
+step-advances c p a = step-does c p (accepted-is _ a)
+
+-- ---- what the deeds of a run tell: its accepted sends, receives and steps, one after the other, with a broadcast as its sends
+-- a run is the run of its deeds
+pub run-of-deeds : (n : ℕ) (v : ℕ → ℕ) (es : List Event) → ran n v (deeds (openControl n) es) ≡ ran n v es
+unfolding opening
+run-of-deeds n v es = after-deeds (opening n v) es
+
+-- q is in p's sent set exactly when p sent to q since its last step, or since the opening
+pub sent-exactly : (n : ℕ) (v : ℕ → ℕ) (es : List Event) (p q : ℕ)
+    → (has (ran n v es .control .site p .sent) q ≡ true) ↔ SinceStep p (Send p q) (deeds (openControl n) es)
+sent-exactly = sent-since
+
+-- q is in p's heard set exactly when p received from q since its last step, or since the opening
+pub heard-exactly : (n : ℕ) (v : ℕ → ℕ) (es : List Event) (p q : ℕ)
+    → (has (ran n v es .control .site p .heard) q ≡ true) ↔ SinceStep p (Receive p q) (deeds (openControl n) es)
+heard-exactly = heard-since
+
+-- q's message for round r is in transit to p exactly when q, at round r, sent it with a lead of 0 to 7, and since then p has neither received it nor
+-- stepped beyond r
+pub transit-exactly : (n : ℕ) (v : ℕ → ℕ) (es : List Event) (p r q : ℕ)
+    → (has (ran n v es .control .transit p r) q ≡ true) ↔ Underway n v (deeds (openControl n) es) p r q
+transit-exactly = transit-since
 
 -- ---- mail is true
 -- of a message for round r from y to x, in transit or heard this round
 pub record Faithful (n : ℕ) (v : ℕ → ℕ) (es : List Event) (x r y : ℕ) : Type 0 where
-  -- there was a moment at which its sender was at that round
-  pub sent : Moment (opening n v) es y r
-  -- and at every such moment its sender had the value, vote and reach that the message carries
+  -- there was a moment at which its sender, at that round, sent it to this receiver
+  pub sent : SentTo n v (deeds (openControl n) es) x r y
+  -- it carries the value, vote and reach that its sender had then
+  pub said : ran n v es .content .mail x r y ≡ message (ran n v (sent .earlier) .content .holding y)
+  pub knew : ran n v es .control .carried x r y ≡ ran n v (sent .earlier) .control .site y .reach
+  -- and so had its sender at every moment at which it was at that round
   pub carries : (earlier later : List Event) → earlier ++ later ≡ es → ran n v earlier .control .site y .round ≡ r
       → (ran n v es .content .mail x r y ≡ message (ran n v earlier .content .holding y))
       × (ran n v es .control .carried x r y ≡ ran n v earlier .control .site y .reach)
 
 pub mail-is-true : (n : ℕ) (v : ℕ → ℕ) (es : List Event) (x r y : ℕ) → Live (ran n v es .control) x r y → Faithful n v es x r y
-mail-is-true n v es x r y l = record { sent = throughout.moment-in n v es x r y l; carries = throughout.mail-in n v es x r y l }
+mail-is-true n v es x r y l =
+    let sent = live-sent n v es x r y l in
+    let then = throughout.said-in n v es x r y l sent in
+    record { sent = sent; said = then .0; knew = then .1; carries = throughout.mail-in n v es x r y l }
 
 -- so a step applies the rule to what those it heard had to say in that round, and its reach gains what theirs was then; said and knew are any
 -- functions that give this of those heard

@@ -1,80 +1,111 @@
--- What a send puts in transit and what it does not, and what a step makes of the messages heard.
+-- What an accepted send, receive and step do, whole; and what a step makes of the messages heard.
 -- Assumes nothing.
-use Prim.Native.Nat.{ℕ, _+_, _≤_, _<_}
-use mathlib.Core.Path.{_≡_, refl, ap, ap₂, _∙_}
-use mathlib.Core.Bool.{true, false}
+use Prim.Native.Nat.{ℕ, suc}
+use native.Mathlib.Omega.{arith}
+use mathlib.Core.Path.{_≡_, refl, sym, ap, ap₂, subst, _∙_}
+use mathlib.Core.Bool.{Bool, true, false, cond}
 use mathlib.Core.List.{List, [], _∷_, List·Memᴰ as Among, List·Memᴰ·head as here, List·Memᴰ·tail as there}
-use borrow.Author.Tests.{le-leb, lt-leb, lt-ltb}
+use borrow.Author.Tests.{lt-ltb, le-ltb}
 use Rattle.sets.specs.Sets.{has, with, union, members}
-use Rattle.sets.proofs.Membership.{with-own}
 use Rattle.sets.proofs.Order.{members-in}
 use Rattle.voting.specs.declared.Message.{Message}
 use Rattle.voting.specs.Voting.{message, rule}
-use Rattle.rounds.specs.Limits.{window}
-use Rattle.rounds.specs.Config.{Site, Control, Content, Config}
-use Rattle.rounds.specs.declared.Event.the-variants.{Send}
+use Rattle.rounds.specs.Config.{Site, Control, Content, Config, at₂, at₃}
+use Rattle.rounds.specs.declared.Event.{Event}
+use Rattle.rounds.specs.declared.Event.the-variants.{Send, Receive, Step}
 use Rattle.rounds.specs.Stages.{tick}
 use Rattle.rounds.specs.Verdicts.{accepted, verdict}
-use Rattle.rounds.specs.Events.{timely, sendControl, sendContent, gathered, messages, heardBy, stepControl, stepContent, nextControl, nextContent, apply}
-use Rattle.rounds.proofs.Updates.{at-same, at₂-same, at₃-same}
+use Rattle.rounds.specs.Events.{timely, sendControl, sendContent, receiveControl, gathered, messages, heardBy, from, stepControl, stepContent, nextControl, nextContent, apply}
+use Rattle.rounds.specs.Effects.{Counted, Posts, Takes, Advances}
+use Rattle.rounds.proofs.Updates.{at-same, at-other, at₂-same, at₂-other, at₃-same, at₃-other}
+use Rattle.rounds.proofs.Limits.{in-time, too-late}
 use Rattle.rounds.proofs.After.{apply-accepted}
 
--- ---- a send
-in-time : (r s : ℕ) → s ≤ r → r < s + window → timely r s ≡ true
-unfolding timely
-in-time r s low high = rw (le-leb s r low, lt-ltb r (s + window) high)
+-- ---- chosen of two
+-- what a message that is put in transit leaves as it was, it leaves so too where it is not
+same-either : {A : Type 0} (b : Bool) {x y : A} → x ≡ y → cond b x y ≡ y
+same-either true e = e
+same-either false e = refl
 
-too-late : (r s : ℕ) → r < s → timely r s ≡ false
-unfolding timely
-too-late r s h = rw (lt-leb s r h)
+-- what is chosen of two functions, at one place
+cond-at₂ : {A : Type 0} (b : Bool) (f g : ℕ → ℕ → A) (i j : ℕ) → cond b f g i j ≡ cond b (f i j) (g i j)
+cond-at₂ true f g i j = refl
+cond-at₂ false f g i j = refl
 
-module _ (c : Control) (d : Content) (p q : ℕ) where
-  -- with a lead of 0 to 7 the message is in transit, and carries what its sender holds
-  module _ (low : c .site q .round ≤ c .site p .round) (high : c .site p .round < c .site q .round + window) where
-    put-in-transit : has (sendControl (tick c) p q .transit q (c .site p .round)) p ≡ true
-    unfolding sendControl tick
-    put-in-transit =
-        rw (in-time (c .site p .round) (c .site q .round) low high, at₂-same (c .transit) q (c .site p .round) (with (c .transit q (c .site p .round)) p))
-        (with-own (c .transit q (c .site p .round)) p)
+cond-at₃ : {A : Type 0} (b : Bool) (f g : ℕ → ℕ → ℕ → A) (i j k : ℕ) → cond b f g i j k ≡ cond b (f i j k) (g i j k)
+cond-at₃ true f g i j k = refl
+cond-at₃ false f g i j k = refl
 
-    put-in-mail : sendContent c d p q .mail q (c .site p .round) p ≡ message (d .holding p)
-    unfolding sendContent
-    put-in-mail =
-        rw (in-time (c .site p .round) (c .site q .round) low high) (at₃-same (d .mail) q (c .site p .round) p (message (d .holding p)))
+-- ---- the three, on the parts of a configuration
+module _ (c : Control) (d : Content) (p : ℕ) where
+  abbrev me : Site
+  me = c .site p
 
-    put-with-reach : sendControl (tick c) p q .carried q (c .site p .round) p ≡ c .site p .reach
-    unfolding sendControl tick
-    put-with-reach =
-        rw (in-time (c .site p .round) (c .site q .round) low high) (at₃-same (c .carried) q (c .site p .round) p (c .site p .reach))
+  abbrev r : ℕ
+  r = me .round
 
-  -- with a lead below 0 it is discarded
-  module _ (late : c .site p .round < c .site q .round) where
-    late-transit : sendControl (tick c) p q .transit ≡ c .transit
-    unfolding sendControl tick
-    late-transit = rw (too-late (c .site p .round) (c .site q .round) late)
+  posts : (q : ℕ) → Posts (record { control = c; content = d }) (record { control = sendControl (tick c) p q; content = sendContent c d p q }) p q
+  unfolding sendControl sendContent tick
+  posts q =
+      let b = timely r (c .site q .round) in
+      record {
+        counted = record { size = refl; events = refl; count = λ x s. refl };
+        sender = record { own = at-same (c .site) p _; others = at-other (c .site) p _ };
+        kept = λ low high.
+            rw (in-time r (c .site q .round) low high)
+            (at₂-same (c .transit) q r _, at₃-same (d .mail) q r p _, at₃-same (c .carried) q r p _);
+        late = λ l. rw (too-late r (c .site q .round) l) (refl, refl, refl);
+        transit = λ x s other. cond-at₂ b _ (c .transit) x s ∙ same-either b (at₂-other (c .transit) q r _ x s other);
+        mail = λ x s y other. cond-at₃ b _ (d .mail) x s y ∙ same-either b (at₃-other (d .mail) q r p _ x s y other);
+        carried = λ x s y other. cond-at₃ b _ (c .carried) x s y ∙ same-either b (at₃-other (c .carried) q r p _ x s y other);
+        holding = refl;
+      }
 
-    late-mail : sendContent c d p q .mail ≡ d .mail
-    unfolding sendContent
-    late-mail = rw (too-late (c .site p .round) (c .site q .round) late)
+  takes : (q : ℕ) → Takes (record { control = c; content = d }) (record { control = receiveControl (tick c) p q; content = d }) p q
+  unfolding receiveControl tick
+  takes q =
+      record {
+        counted = record { size = refl; events = refl; count = λ x s. refl };
+        receiver = record { own = at-same (c .site) p _; others = at-other (c .site) p _ };
+        taken = at₂-same (c .transit) p r _;
+        transit = at₂-other (c .transit) p r _;
+        carried = refl;
+        content = refl;
+      }
 
--- the same of an accepted send
-module _ (c : Config) (p q : ℕ) (a : accepted (verdict (c .control) (Send p q)) ≡ true) where
-  pub posts-kept : c .control .site q .round ≤ c .control .site p .round → c .control .site p .round < c .control .site q .round + window
-      → (has (apply c (Send p q) .control .transit q (c .control .site p .round)) p ≡ true)
-      × (apply c (Send p q) .content .mail q (c .control .site p .round) p ≡ message (c .content .holding p))
-      × (apply c (Send p q) .control .carried q (c .control .site p .round) p ≡ c .control .site p .reach)
+  advances : Advances (record { control = c; content = d }) (record { control = stepControl (tick c) p; content = stepContent c d p }) p
+  unfolding stepControl stepContent heardBy tick from
+  advances =
+      record {
+        counted = record { size = refl; events = refl; count = λ x s. refl };
+        stepper = record { own = at-same (c .site) p _; others = at-other (c .site) p _ };
+        voted = at-same (d .holding) p _;
+        holding = at-other (d .holding) p _;
+        dropped = λ s l. ap (λ (f : ℕ → ℕ). f s) (at-same (c .transit) p _) ∙ rw (lt-ltb s (suc r) (omega arith));
+        waiting = λ s l. ap (λ (f : ℕ → ℕ). f s) (at-same (c .transit) p _) ∙ rw (le-ltb s (suc r) (omega arith));
+        transit = λ x s other. ap (λ (f : ℕ → ℕ). f s) (at-other (c .transit) p _ x other);
+        mail = refl;
+        carried = refl;
+      }
+
+-- ---- the same of accepted events
+module _ (c : Config) where
+  -- what an accepted event does is what its next configuration has
+  done : (e : Event) (D : Config → Type 0) → accepted (verdict (c .control) e) ≡ true
+      → D (record { control = nextControl (c .control) e; content = nextContent (c .control) (c .content) e }) → D (apply c e)
+  done e D a = subst D (sym (apply-accepted c e a))
+
+  pub send-does : (p q : ℕ) → accepted (verdict (c .control) (Send p q)) ≡ true → Posts c (apply c (Send p q)) p q
   unfolding nextControl nextContent
-  posts-kept low high =
-      let d = c .content in
-      rw (apply-accepted c (Send p q) a)
-      (put-in-transit (c .control) d p q low high, put-in-mail (c .control) d p q low high, put-with-reach (c .control) d p q low high)
+  send-does p q a = done (Send p q) (λ d. Posts c d p q) a (posts (c .control) (c .content) p q)
 
-  pub posts-late : c .control .site p .round < c .control .site q .round
-      → (apply c (Send p q) .control .transit ≡ c .control .transit) × (apply c (Send p q) .content .mail ≡ c .content .mail)
+  pub receive-does : (p q : ℕ) → accepted (verdict (c .control) (Receive p q)) ≡ true → Takes c (apply c (Receive p q)) p q
   unfolding nextControl nextContent
-  posts-late late =
-      rw (apply-accepted c (Send p q) a)
-      (late-transit (c .control) (c .content) p q late, late-mail (c .control) (c .content) p q late)
+  receive-does p q a = done (Receive p q) (λ d. Takes c d p q) a (takes (c .control) (c .content) p q)
+
+  pub step-does : (p : ℕ) → accepted (verdict (c .control) (Step p)) ≡ true → Advances c (apply c (Step p)) p
+  unfolding nextControl nextContent
+  step-does p a = done (Step p) (λ d. Advances c d p) a (advances (c .control) (c .content) p)
 
 -- ---- a step
 same-messages : (qs : List ℕ) (f g : ℕ → Message) → ((q : ℕ) → Among q qs → f q ≡ g q) → messages qs f ≡ messages qs g

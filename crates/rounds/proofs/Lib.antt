@@ -17,8 +17,11 @@ pub mod Mail
 pub mod Table
 pub mod Effects
 pub mod After
-pub mod Moments
 pub mod Recorded
+pub mod Last
+pub mod Deeds
+pub mod History
+pub mod Underway
 pub mod Throughout
 pub mod Independence
 pub mod Nights

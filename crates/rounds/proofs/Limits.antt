@@ -7,7 +7,7 @@ use mathlib.Core.Path.{_≡_, refl, _∙_}
 use mathlib.Core.Bool.{Bool, true, false, cond, _&&_, false≢true}
 use mathlib.Core.List.{List, [], _∷_}
 use lib.Dec.{ltb, leb}
-use borrow.Author.Tests.{leb-true, ltb-true, lt-ltb}
+use borrow.Author.Tests.{leb-true, ltb-true, le-leb, lt-leb, lt-ltb}
 use Rattle.sets.specs.Sets.{empty, has}
 use Rattle.sets.proofs.Membership.{empty-none}
 use Rattle.sets.proofs.Bounds.{empty-below, with-below, without-below, union-below}
@@ -65,6 +65,14 @@ timely-lead r s e = go (leb s r) (ltb r (s + window)) refl refl e
     go : (a b : Bool) → leb s r ≡ a → ltb r (s + window) ≡ b → (a && b) ≡ true → (s ≤ r) × (r < s + window)
     go true b f g e = (leb-true s r f, ltb-true r (s + window) (g ∙ e))
     go false b f g e = absurd (false≢true e)
+
+pub in-time : (r s : ℕ) → s ≤ r → r < s + window → timely r s ≡ true
+unfolding timely
+in-time r s low high = rw (le-leb s r low, lt-ltb r (s + window) high)
+
+pub too-late : (r s : ℕ) → r < s → timely r s ≡ false
+unfolding timely
+too-late r s h = rw (lt-leb s r h)
 
 send-window : (c : Control) (p q : ℕ) → Window c → Window (sendControl (tick c) p q)
 unfolding sendControl tick

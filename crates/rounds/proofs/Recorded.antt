@@ -1,17 +1,16 @@
 -- The end of a course is what its beginning is after some list of events: so the end of a course from an opening is a run, and nothing else.
 -- Assumes nothing.
-use mathlib.Core.Path.{_≡_, refl, ap, _∙_}
+use mathlib.Core.Path.{_≡_, refl}
 use mathlib.Core.List.{List, [], _∷_, _++_}
 use Rattle.rounds.specs.declared.Event.{Event}
 use Rattle.rounds.specs.declared.Event.the-variants.{Send, Receive, Step}
 use Rattle.rounds.specs.Config.{Control, Content, Config}
-use Rattle.rounds.specs.Events.{nextControl, nextContent, apply}
+use Rattle.rounds.specs.Events.{nextControl, nextContent}
 use Rattle.rounds.specs.Runs.{after, Report}
 use Rattle.rounds.specs.Allowed.{Allowed}
 use Rattle.rounds.specs.Course.{Course}
 use Rattle.rounds.specs.Course.Course.{stays, sends, receives, steps}
-use Rattle.rounds.proofs.Answers.{accepted-is, allows}
-use Rattle.rounds.proofs.After.{after-append, apply-accepted}
+use Rattle.rounds.proofs.After.{after-more}
 
 -- the one configuration after some events is the other
 pub record Recorded (c₀ : Config) (c : Config) : Type 0 where
@@ -21,15 +20,7 @@ pub record Recorded (c₀ : Config) (c : Config) : Type 0 where
 -- one more accepted event
 more : (c₀ c : Config) (e : Event) → Recorded c₀ c → Allowed (c .control) e
     → Recorded c₀ (record { control = nextControl (c .control) e; content = nextContent (c .control) (c .content) e })
-unfolding after
-more c₀ c e r h =
-    record {
-      events = r .events ++ (e ∷ []);
-      ends =
-          after-append c₀ (r .events) (e ∷ [])
-          ∙ ap (λ (b : Config). apply b e) (r .ends)
-          ∙ apply-accepted c e (accepted-is _ (allows (c .control) e h));
-    }
+more c₀ c e r h = record { events = r .events ++ (e ∷ []); ends = after-more c₀ c (r .events) e (r .ends) h }
 
 pub recorded : (c₀ : Control) (d₀ : Content) {c : Control} {d : Content} {rs : List Report} → Course c₀ d₀ c d rs
     → Recorded (record { control = c₀; content = d₀ }) (record { control = c; content = d })

@@ -4,21 +4,22 @@ use Prim.Native.Nat.{ℕ, _+_, _≤_, _<_, _^_}
 use native.Mathlib.Omega.{arith}
 use mathlib.Core.Path.{_≡_, refl, sym, ap, _∙_}
 use mathlib.Core.Bool.{true, false}
-use mathlib.Core.List.{List, _++_}
+use mathlib.Core.List.{List, _∷_, _++_}
 use Rattle.sets.specs.Sets.{has, members}
 use Rattle.voting.specs.declared.Message.{Message}
 use Rattle.voting.specs.Voting.{message, rule}
 use Rattle.rounds.specs.declared.Stage.{Stage}
 use Rattle.rounds.specs.declared.Stage.the-variants.{Sending, Collecting, Pending, Idle}
 use Rattle.rounds.specs.declared.Event.{Event}
-use Rattle.rounds.specs.declared.Event.the-variants.{Step}
+use Rattle.rounds.specs.declared.Event.the-variants.{Send, Step}
 use Rattle.rounds.specs.Limits.{window, lastRound, mostEvents}
 use Rattle.rounds.specs.Config.{Control, Config, openControl, opening}
 use Rattle.rounds.specs.Stages.{stage}
 use Rattle.rounds.specs.Verdicts.{accepted, verdict}
 use Rattle.rounds.specs.Events.{gathered, messages, nextControl, nextContent, apply}
+use Rattle.rounds.specs.Runs.{deeds}
 use Rattle.rounds.specs.Allowed.{Sends}
-use Rattle.rounds.specs.Claims.{ran, Everyone, Live, Moment, Had, moments, times, total}
+use Rattle.rounds.specs.Claims.{ran, Everyone, Live, SentTo, Had, moments, times, total}
 use Rattle.rounds.specs.Claims.Live.{taken}
 use Rattle.rounds.proofs.MadeOfThree.{course, run-course}
 use Rattle.rounds.proofs.Kept.{Kept, kept}
@@ -26,11 +27,11 @@ use Rattle.rounds.proofs.Limits.{size-stays, rounds-kept, events-kept, 
 use Rattle.rounds.proofs.Lead.{led-kept, open-led}
 use Rattle.rounds.proofs.Counts.{counts, total-kept}
 use Rattle.rounds.proofs.Reach.{reach-grows, own-reach}
-use Rattle.rounds.proofs.Live.{not-live, open-silent, live-from}
+use Rattle.rounds.proofs.Live.{not-live, open-silent}
 use Rattle.rounds.proofs.Mail.{spoken-fresh, mail-true}
 use Rattle.rounds.proofs.Table.{Once, once-kept, open-once, at-sending, at-collecting, at-pending, at-idle}
 use Rattle.rounds.proofs.After.{after-append, apply-accepted}
-use Rattle.rounds.proofs.Moments.{moment}
+use Rattle.rounds.proofs.Deeds.{after-deeds}
 use Rattle.rounds.proofs.Effects.{step-votes, step-reaches}
 
 module _ (n : ℕ) (v : ℕ → ℕ) (es : List Event) where
@@ -117,13 +118,6 @@ module _ (n : ℕ) (v : ℕ → ℕ) (es : List Event) where
   idle-in p all heard = at-idle now within-in p once-in (all-in _ all) (all-in _ heard)
 
   -- ---- the mail
-  pub moment-in : (x r y : ℕ) → Live now x r y → Moment (opening n v) es y r
-  unfolding opening openControl
-  moment-in x r y l =
-      let least = live-from now window-in x r y l in
-      let first = rounds-in x .0 in
-      moment (opening n v) es y r (omega arith) (spoken-fresh n v (run-course n v es) .0 x r y l .0)
-
   pub not-live-in : (p q : ℕ) → Live now q (now .site p .round) p → Sends now p q → ⊥
   not-live-in p q l h = not-live now p q (spoken-fresh n v (run-course n v es) .0) h l
 
@@ -135,6 +129,15 @@ mail-in n v es x r y l earlier later whole round =
     rw (← whole, after-append (opening n v) earlier later, ← round)
     (mail-true n v (run-course n v earlier) (course (ran n v earlier) later) x y
     (rw (← whole, after-append (opening n v) earlier later, ← round) at l))
+
+-- and so what it held when it sent it
+pub said-in : (n : ℕ) (v : ℕ → ℕ) (es : List Event) (x r y : ℕ) → Live (ran n v es .control) x r y → (s : SentTo n v (deeds (openControl n) es) x r y)
+    → (ran n v es .content .mail x r y ≡ message (ran n v (s .earlier) .content .holding y))
+    × (ran n v es .control .carried x r y ≡ ran n v (s .earlier) .control .site y .reach)
+unfolding opening
+said-in n v es x r y l s =
+    rw (← after-deeds (opening n v) es)
+    (mail-in n v (deeds (openControl n) es) x r y (rw (← after-deeds (opening n v) es) at l) (s .earlier) (Send y x ∷ s .later) (s .whole) (s .round))
 
 -- ---- a step: it goes by what the senders it heard had in that round
 module _ (n : ℕ) (v : ℕ → ℕ) (es : List Event) (p : ℕ) (said : ℕ → Message) (knew : ℕ → ℕ)

@@ -99,6 +99,16 @@ pub at₃-same : {A : Type 0} (f : ℕ → ℕ → ℕ → A) (p r q : ℕ) (a :
 unfolding at₃
 at₃-same {A = A} f p r q a = ap (λ (g : ℕ → ℕ → A). g r q) (at-same f p (at₂ (f p) r q a)) ∙ at₂-same (f p) r q a
 
+pub at₂-other : {A : Type 0} (f : ℕ → ℕ → A) (p r : ℕ) (a : A) (i j : ℕ) → (i ≡ p → j ≡ r → ⊥) → at₂ f p r a i j ≡ f i j
+unfolding at₂
+at₂-other f p r a i j n =
+    at-each (λ i F. (i ≡ p → j ≡ r → ⊥) → F j ≡ f i j) f p _ (λ n. at-other (f p) r a j (n refl)) (λ i other n. refl) i n
+
+pub at₃-other : {A : Type 0} (f : ℕ → ℕ → ℕ → A) (p r q : ℕ) (a : A) (i j k : ℕ) → (i ≡ p → j ≡ r → k ≡ q → ⊥) → at₃ f p r q a i j k ≡ f i j k
+unfolding at₃
+at₃-other f p r q a i j k n =
+    at-each (λ i F. (i ≡ p → j ≡ r → k ≡ q → ⊥) → F j k ≡ f i j k) f p _ (λ n. at₂-other (f p) r q a j k (n refl)) (λ i other n. refl) i n
+
 -- ---- what holds of both arms holds of the one chosen
 pub cond-either : {A : Type 0} (P : A → Type 0) (b : Bool) (x y : A) → (b ≡ true → P x) → (b ≡ false → P y) → P (cond b x y)
 cond-either P true x y f g = f refl

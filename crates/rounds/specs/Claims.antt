@@ -1,6 +1,6 @@
 -- What the statements about runs speak of: live messages, moments, how often a stage held, and openings that agree.
 -- Assumes nothing.
-use Prim.Native.Nat.{ℕ, zero, suc, _+_, _<_}
+use Prim.Native.Nat.{ℕ, zero, suc, _+_, _≤_, _<_}
 use mathlib.Core.Path.{_≡_}
 use mathlib.Core.Bool.{true}
 use mathlib.Core.List.{List, [], _∷_, _++_}
@@ -12,6 +12,7 @@ use Rattle.rounds.specs.declared.Stage.the-variants.{Sending, Collecting
 use Rattle.rounds.specs.declared.Event.{Event}
 use Rattle.rounds.specs.declared.Event.the-variants.{Send, Receive, Step, Broadcast}
 use Rattle.rounds.specs.declared.Verdict.the-variants.{Accepted}
+use Rattle.rounds.specs.Limits.{window}
 use Rattle.rounds.specs.Config.{Control, Config, opening}
 use Rattle.rounds.specs.Stages.{stage, one}
 use Rattle.rounds.specs.Verdicts.{verdict}
@@ -47,6 +48,30 @@ pub record Had (n : ℕ) (v : ℕ → ℕ) (es : List Event) (p r : ℕ) (m : Me
   pub said : m ≡ message (ran n v (when .earlier) .content .holding p)
   pub reach : s ≡ ran n v (when .earlier) .control .site p .reach
 
+-- ---- what the deeds of a run tell
+-- e is one of the deeds, and behind it p does not step
+pub record SinceStep (p : ℕ) (e : Event) (deeds : List Event) : Type 0 where
+  pub earlier : List Event
+  pub later : List Event
+  pub whole : earlier ++ (e ∷ later) ≡ deeds
+  pub still : (a b : List Event) → a ++ (Step p ∷ b) ≡ later → ⊥
+
+-- y sent to x at round r
+pub record SentTo (n : ℕ) (v : ℕ → ℕ) (deeds : List Event) (x r y : ℕ) : Type 0 where
+  pub earlier : List Event
+  pub later : List Event
+  pub whole : earlier ++ (Send y x ∷ later) ≡ deeds
+  pub round : ran n v earlier .control .site y .round ≡ r
+
+-- y sent to x at round r, with a lead within the window; and since then x has neither received that message, nor stepped beyond r
+pub record Underway (n : ℕ) (v : ℕ → ℕ) (deeds : List Event) (x r y : ℕ) : Type 0 where
+  pub sent : SentTo n v deeds x r y
+  pub lead : let s = ran n v (sent .earlier) .control .site x .round in (s ≤ r) × (r < s + window)
+  pub untaken : (a b : List Event) → a ++ (Receive x y ∷ b) ≡ sent .later
+      → ran n v (sent .earlier ++ (Send y x ∷ a)) .control .site x .round ≡ r → ⊥
+  pub unpassed : ran n v deeds .control .site x .round ≤ r
+
+-- ---- stops
 -- where the replay of es stops: the events before it, all accepted; the one that is refused; and those that are never looked at
 pub record Stop (c : Config) (es : List Event) : Type 0 where
   pub earlier : List Event

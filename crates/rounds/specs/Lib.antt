@@ -7,5 +7,6 @@ pub mod Events
 pub mod Runs
 pub mod Allowed
 pub mod Course
+pub mod Effects
 pub mod Claims
 pub mod Examples

@@ -71,3 +71,14 @@ nightReports n xs es = ifAccepted (openVerdict n (length xs)) (reports (opening 
 unfoldable pub sends : ℕ → ℕ → List Event
 sends zero p = []
 sends (suc k) p = sends k p ++ (Send p k ∷ [])
+
+-- ---- the deeds of a run: its accepted sends, receives and steps, one after the other, with a broadcast as its sends
+unfoldable pub deedsOf : Control → Event → List Event
+deedsOf c (Send p q) = Send p q ∷ []
+deedsOf c (Receive p q) = Receive p q ∷ []
+deedsOf c (Step p) = Step p ∷ []
+deedsOf c (Broadcast p) = sends (c .size) p
+
+unfoldable pub deeds : Control → List Event → List Event
+deeds c [] = []
+deeds c (e ∷ es) = ifAccepted (verdict c e) (deedsOf c e) [] ++ deeds (applyControl c e) es
