@@ -5,6 +5,8 @@ look.py public      every public function of every crate has no `requires` and a
 look.py documents   every link in a document leads to a file, and to a heading where it names one; a link [`NAME`](FILE) to a declaration of NAME in that
                     file; every `NAME` is declared in some crate, or listed here as another's; docs/STATEMENTS.md names every must-fail edit, as *LABEL*,
                     and no other
+look.py refused     by what the check of each must-fail edit said: an edit in the row of a theorem of its crate in docs/STATEMENTS.md is refused by that
+                    theorem, or by one of those in the row. The edits must be tried before
 look.py assumed     by what the check of each crate said last: it is proved, and rests on no assumed contract but those that are listed here; of the C
                     call's archive and of the programs the checker has counted them. The archive must be made before
 """
@@ -103,6 +105,21 @@ def documents():
         yield f"docs/STATEMENTS.md names {label}, and there is no such edit"
 
 
+def refused():
+    tried = {edit.stem: edit.parent.parent.name for edit in TOP.glob("crates/*/must-fail/*.edit")}
+    for row in [line.split("|") for line in STATEMENTS.read_text().splitlines() if line.startswith("|")]:
+        theorems = re.findall(r"\[`([^`]+)`\]\(\.\./crates/(\w+)/proofs/", row[1])
+        for label in re.findall(EDIT, row[-2]):
+            own = [name for name, crate in theorems if crate == tried.get(label)]
+            if not own:
+                continue
+            log = TOP / "target" / "must-fail" / tried[label] / label / ".log"
+            if not log.exists():
+                yield f"{label} was not tried"
+            elif not any(f"error: `{name}`:" in log.read_text() for name in own):
+                yield f"{label} is in the row of {', '.join(own)}, and the checker does not refuse that"
+
+
 def assumed():
     for line in (TOP / "crates.txt").read_text().splitlines():
         name = line.split("#")[0].partition(":")[0].strip()
@@ -121,7 +138,7 @@ def assumed():
             yield f"{name} rests on {sorted(rests)}, counted as {counted}"
 
 
-LOOKS = {"public": public, "documents": documents, "assumed": assumed}
+LOOKS = {"public": public, "documents": documents, "refused": refused, "assumed": assumed}
 
 if __name__ == "__main__":
     if len(sys.argv) != 2 or sys.argv[1] not in LOOKS:

@@ -11,7 +11,7 @@ use Rattle.rounds.specs.Config.{Config}
 use Rattle.rounds.specs.Verdicts.{refuse, openVerdict}
 use Rattle.rounds.specs.Events.{apply}
 use Rattle.rounds.specs.Runs.{after, sends}
-use Rattle.rounds.proofs.After.{after-append}
+use Rattle.rounds.proofs.InTurn.{after-append}
 use Rattle.words.specs.Layout.{Mem}
 use Rattle.words.specs.Shows.{Shows}
 use Rattle.lockstep.specs.LockStep.{receivesBelow, oneTurn, allSend, allTurn, oneRound, manyRounds}

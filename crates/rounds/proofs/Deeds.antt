@@ -15,7 +15,7 @@ use Rattle.rounds.specs.Runs.{after, sends, deedsOf, deeds}
 use Rattle.rounds.specs.Allowed.{Sends, Receives, Steps, Broadcasts, Allowed}
 use Rattle.rounds.proofs.Answers.{allowed}
 use Rattle.rounds.proofs.Broadcasts.{each-sends}
-use Rattle.rounds.proofs.After.{after-more}
+use Rattle.rounds.proofs.InTurn.{after-more}
 
 -- ---- what each of the three keeps, with the deeds so far
 pub record Recalled (I : Control → Content → List Event → Type 0) : Type 0 where

@@ -28,7 +28,7 @@ use Rattle.rounds.specs.Claims.{ran, Everyone, Live, SinceStep, SentTo, 
 use Rattle.rounds.proofs.Answers.{accepted-is, refused-is, opens-right, right-opens, allowed, allows}
 use Rattle.rounds.proofs.MadeOfThree.{run-course}
 use Rattle.rounds.proofs.Live.{written-once}
-use Rattle.rounds.proofs.After.{apply-refused, broadcast-sends, broadcast-first, replay-whole, replay-stops, replay-heeded}
+use Rattle.rounds.proofs.InTurn.{apply-refused, broadcast-sends, broadcast-first, replay-whole, replay-stops, replay-heeded}
 use Rattle.rounds.proofs.Effects.{send-does, receive-does, step-does}
 use Rattle.rounds.proofs.Deeds.{after-deeds}
 use Rattle.rounds.proofs.History.{sent-since, heard-since}

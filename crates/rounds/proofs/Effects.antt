@@ -19,7 +19,7 @@ use Rattle.rounds.specs.Events.{timely, sendControl, sendContent, receiv
 use Rattle.rounds.specs.Effects.{Counted, Posts, Takes, Advances}
 use Rattle.rounds.proofs.Updates.{at-same, at-other, at₂-same, at₂-other, at₃-same, at₃-other}
 use Rattle.rounds.proofs.Limits.{in-time, too-late}
-use Rattle.rounds.proofs.After.{apply-accepted}
+use Rattle.rounds.proofs.InTurn.{apply-accepted}
 
 -- ---- chosen of two
 -- what a message that is put in transit leaves as it was, it leaves so too where it is not

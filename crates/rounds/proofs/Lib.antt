@@ -16,7 +16,7 @@ pub mod Live
 pub mod Mail
 pub mod Table
 pub mod Effects
-pub mod After
+pub mod InTurn
 pub mod Recorded
 pub mod Last
 pub mod Deeds

@@ -10,7 +10,7 @@ use Rattle.rounds.specs.Verdicts.{accepted, openVerdict, verdict}
 use Rattle.rounds.specs.Events.{ifAccepted, applyControl}
 use Rattle.rounds.specs.Runs.{after, replay, heeded, valueAt, nightVerdict, night, nightReports}
 use Rattle.rounds.specs.Claims.{Agree}
-use Rattle.rounds.proofs.After.{replay-heeded}
+use Rattle.rounds.proofs.InTurn.{replay-heeded}
 use Rattle.rounds.proofs.Independence.{same-control, same-replay, same-reports, same-holding}
 
 -- ---- a replay of more events heeds these, and perhaps some more

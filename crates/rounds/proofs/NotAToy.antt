@@ -21,7 +21,7 @@ use Rattle.rounds.specs.Examples.{run, waits, sevenAndFour, trace1}
 use Rattle.rounds.proofs.Updates.{at-same, at₂-same}
 use Rattle.rounds.proofs.Answers.{accepted-is, allowed}
 use Rattle.rounds.proofs.Broadcasts.{send-sent, sends-sent}
-use Rattle.rounds.proofs.After.{apply-accepted}
+use Rattle.rounds.proofs.InTurn.{apply-accepted}
 
 -- it does not refuse everything
 pub not-refusing : ((c : Control) (e : Event) → verdict c e ≡ Accepted → ⊥) → ⊥

@@ -10,7 +10,7 @@ use Rattle.rounds.specs.Runs.{after, Report}
 use Rattle.rounds.specs.Allowed.{Allowed}
 use Rattle.rounds.specs.Course.{Course}
 use Rattle.rounds.specs.Course.Course.{stays, sends, receives, steps}
-use Rattle.rounds.proofs.After.{after-more}
+use Rattle.rounds.proofs.InTurn.{after-more}
 
 -- the one configuration after some events is the other
 pub record Recorded (c₀ : Config) (c : Config) : Type 0 where

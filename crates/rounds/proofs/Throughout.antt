@@ -30,7 +30,7 @@ use Rattle.rounds.proofs.Reach.{reach-grows, own-reach}
 use Rattle.rounds.proofs.Live.{not-live, open-silent}
 use Rattle.rounds.proofs.Mail.{spoken-fresh, mail-true}
 use Rattle.rounds.proofs.Table.{Once, once-kept, open-once, at-sending, at-collecting, at-pending, at-idle}
-use Rattle.rounds.proofs.After.{after-append, apply-accepted}
+use Rattle.rounds.proofs.InTurn.{after-append, apply-accepted}
 use Rattle.rounds.proofs.Deeds.{after-deeds}
 use Rattle.rounds.proofs.Effects.{step-votes, step-reaches}
 

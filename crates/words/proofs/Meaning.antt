@@ -23,7 +23,7 @@ use Rattle.rounds.proofs.Answers.{allowed, accepted-is, opens-right}
 use Rattle.rounds.proofs.Broadcasts.{sends-size, each-sends}
 use Rattle.rounds.proofs.MadeOfThree.{sends-course, apply-course}
 use Rattle.rounds.proofs.Limits.{size-stays}
-use Rattle.rounds.proofs.After.{apply-accepted, apply-refused}
+use Rattle.rounds.proofs.InTurn.{apply-accepted, apply-refused}
 use Rattle.words.specs.declared.Answer.{Answer}
 use Rattle.words.specs.declared.Answer.the-variants.{Judged}
 use Rattle.words.specs.declared.Standing.{Standing}
