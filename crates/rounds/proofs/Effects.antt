@@ -6,17 +6,17 @@ use mathlib.Core.Path.{_≡_, refl, sym, ap, ap₂, subst, _∙_}
 use mathlib.Core.Bool.{Bool, true, false, cond}
 use mathlib.Core.List.{List, [], _∷_, List·Memᴰ as Among, List·Memᴰ·head as here, List·Memᴰ·tail as there}
 use borrow.Author.Tests.{lt-ltb, le-ltb}
-use Rattle.sets.specs.Sets.{has, with, union, members}
+use Rattle.sets.specs.Sets.{has, union, members}
 use Rattle.sets.proofs.Order.{members-in}
 use Rattle.voting.specs.declared.Message.{Message}
-use Rattle.voting.specs.Voting.{message, rule}
-use Rattle.rounds.specs.Config.{Site, Control, Content, Config, at₂, at₃}
+use Rattle.voting.specs.Voting.{rule}
+use Rattle.rounds.specs.Config.{Site, Control, Content, Config}
 use Rattle.rounds.specs.declared.Event.{Event}
 use Rattle.rounds.specs.declared.Event.the-variants.{Send, Receive, Step}
 use Rattle.rounds.specs.Stages.{tick}
 use Rattle.rounds.specs.Verdicts.{accepted, verdict}
 use Rattle.rounds.specs.Events.{timely, sendControl, sendContent, receiveControl, gathered, messages, heardBy, from, stepControl, stepContent, nextControl, nextContent, apply}
-use Rattle.rounds.specs.Effects.{Counted, Posts, Takes, Advances}
+use Rattle.rounds.specs.Effects.{Posts, Takes, Advances}
 use Rattle.rounds.proofs.Updates.{at-same, at-other, at₂-same, at₂-other, at₃-same, at₃-other}
 use Rattle.rounds.proofs.Limits.{in-time, too-late}
 use Rattle.rounds.proofs.InTurn.{apply-accepted}

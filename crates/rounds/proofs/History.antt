@@ -1,22 +1,21 @@
 -- What is in the sent set and in the heard set of a process: exactly whom it sent to, and whom it received from, since its last step.
 -- Assumes nothing.
 use Prim.Native.Nat.{ℕ}
-use native.Mathlib.Decide.{ℕ-discrete}
 use mathlib.Core.Path.{_≡_, refl, sym, ap, _∙_}
 use mathlib.Core.Logic.{_↔_, _⊎_, inl, inr, ⊎-elim}
-use mathlib.Core.Bool.{true}
+use mathlib.Core.Bool.{true, true≢false}
 use mathlib.Core.List.{List, [], _∷_, _++_}
 use Rattle.sets.specs.Sets.{empty, has, with}
 use Rattle.sets.proofs.Membership.{with-cases, with-own, with-kept, empty-none}
 use Rattle.rounds.specs.declared.Event.{Event}
 use Rattle.rounds.specs.declared.Event.the-variants.{Send, Receive, Step}
-use Rattle.rounds.specs.Config.{Site, Control, openControl, opening}
+use Rattle.rounds.specs.Config.{Site, openControl, opening}
 use Rattle.rounds.specs.Stages.{tick}
 use Rattle.rounds.specs.Events.{sendControl, receiveControl, stepControl}
 use Rattle.rounds.specs.Runs.{deeds}
 use Rattle.rounds.specs.Claims.{ran, SinceStep}
 use Rattle.rounds.proofs.Updates.{at-each}
-use Rattle.rounds.proofs.Last.{Last, nowhere, last, longer, send-is, receive-is, send-no-receive, send-no-step, receive-no-step, step-is}
+use Rattle.rounds.proofs.Last.{Last, nowhere, last, longer}
 use Rattle.rounds.proofs.Last.Last.{itself, sooner}
 use Rattle.rounds.proofs.Deeds.{Recalled, recalled}
 
@@ -102,24 +101,24 @@ told =
       send = λ c d xs p q h k.
           at-each (λ x s. Told s x (xs ++ (Send p q ∷ []))) (c .site) p _
           (record {
-            sent = joined (Send p) p (c .site p .sent) xs (k p .sent) q (λ i e. send-is e .1) send-no-step;
-            heard = unmoved (Receive p) p (c .site p .heard) xs (k p .heard) (Send p q) (λ i e. send-no-receive (sym e)) send-no-step;
+            sent = joined (Send p) p (c .site p .sent) xs (k p .sent) q (λ i e. cc) (λ e. true≢false cc);
+            heard = unmoved (Receive p) p (c .site p .heard) xs (k p .heard) (Send p q) (λ i e. true≢false cc) (λ e. true≢false cc);
           })
-          (λ x other. aside (c .site x) x xs (Send p q) (λ i e. other (send-is e .0)) (λ i e. send-no-receive (sym e)) send-no-step (k x));
+          (λ x other. aside (c .site x) x xs (Send p q) (λ i e. other cc) (λ i e. true≢false cc) (λ e. true≢false cc) (k x));
       receive = λ c d xs p q h k.
           at-each (λ x s. Told s x (xs ++ (Receive p q ∷ []))) (c .site) p _
           (record {
-            sent = unmoved (Send p) p (c .site p .sent) xs (k p .sent) (Receive p q) (λ i e. send-no-receive e) receive-no-step;
-            heard = joined (Receive p) p (c .site p .heard) xs (k p .heard) q (λ i e. receive-is e .1) receive-no-step;
+            sent = unmoved (Send p) p (c .site p .sent) xs (k p .sent) (Receive p q) (λ i e. true≢false cc) (λ e. true≢false cc);
+            heard = joined (Receive p) p (c .site p .heard) xs (k p .heard) q (λ i e. cc) (λ e. true≢false cc);
           })
-          (λ x other. aside (c .site x) x xs (Receive p q) (λ i e. send-no-receive e) (λ i e. other (receive-is e .0)) receive-no-step (k x));
+          (λ x other. aside (c .site x) x xs (Receive p q) (λ i e. true≢false cc) (λ i e. other cc) (λ e. true≢false cc) (k x));
       step = λ c d xs p h k.
           at-each (λ x s. Told s x (xs ++ (Step p ∷ []))) (c .site) p _
           (record {
-            sent = emptied (Send p) p (c .site p .sent) xs (k p .sent) (λ i e. send-no-step e);
-            heard = emptied (Receive p) p (c .site p .heard) xs (k p .heard) (λ i e. receive-no-step e);
+            sent = emptied (Send p) p (c .site p .sent) xs (k p .sent) (λ i e. true≢false cc);
+            heard = emptied (Receive p) p (c .site p .heard) xs (k p .heard) (λ i e. true≢false cc);
           })
-          (λ x other. aside (c .site x) x xs (Step p) (λ i e. send-no-step e) (λ i e. receive-no-step e) (λ e. other (sym (step-is e))) (k x));
+          (λ x other. aside (c .site x) x xs (Step p) (λ i e. true≢false cc) (λ i e. true≢false cc) (λ e. other cc) (k x));
     }
 
 -- ---- of runs

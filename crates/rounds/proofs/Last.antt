@@ -1,11 +1,8 @@
--- A list with one more event at its end: an event of it is that last one, or one of the others. And which events are which.
+-- A list with one more event at its end: an event of it is that last one, or one of the others.
 -- Assumes nothing.
-use Prim.Native.Nat.{ℕ}
-use native.Mathlib.Omega.{arith}
 use mathlib.Core.Path.{_≡_, refl, sym, ap, _∙_}
 use mathlib.Core.List.{List, [], _∷_, _++_, append-assoc, head-eq-of-cons-eq, tail-eq-of-cons-eq, cons≢nil}
 use Rattle.rounds.specs.declared.Event.{Event}
-use Rattle.rounds.specs.declared.Event.the-variants.{Send, Receive, Step, Broadcast}
 
 -- ---- the last of a list
 -- where e stands in xs with x at its end: it is x itself, or one of xs, and then `more` are behind it before x
@@ -35,40 +32,3 @@ last (a ∷ ms) e later (y ∷ ys) x h = go (last ms e later ys x (tail-eq-of-co
 pub longer : (earlier : List Event) (e : Event) (later xs : List Event) (x : Event) → earlier ++ (e ∷ later) ≡ xs
     → earlier ++ (e ∷ (later ++ (x ∷ []))) ≡ xs ++ (x ∷ [])
 longer earlier e later xs x h = sym (append-assoc earlier (e ∷ later) (x ∷ [])) ∙ ap (λ (l : List Event). l ++ (x ∷ [])) h
-
--- ---- which event is which
-abbrev kind : Event → ℕ
-kind (Send p q) = 0
-kind (Receive p q) = 1
-kind (Step p) = 2
-kind (Broadcast p) = 3
-
-abbrev first : Event → ℕ
-first (Send p q) = p
-first (Receive p q) = p
-first (Step p) = p
-first (Broadcast p) = p
-
-abbrev second : Event → ℕ
-second (Send p q) = q
-second (Receive p q) = q
-second (Step p) = 0
-second (Broadcast p) = 0
-
-pub send-is : {p q a b : ℕ} → Send p q ≡ Send a b → (p ≡ a) × (q ≡ b)
-send-is e = (ap first e, ap second e)
-
-pub receive-is : {p q a b : ℕ} → Receive p q ≡ Receive a b → (p ≡ a) × (q ≡ b)
-receive-is e = (ap first e, ap second e)
-
-pub step-is : {p a : ℕ} → Step p ≡ Step a → p ≡ a
-step-is e = ap first e
-
-pub send-no-receive : {p q a b : ℕ} → Send p q ≡ Receive a b → ⊥
-send-no-receive e = let k : _≡_ {A = ℕ} 0 1 = ap kind e in omega arith
-
-pub send-no-step : {p q a : ℕ} → Send p q ≡ Step a → ⊥
-send-no-step e = let k : _≡_ {A = ℕ} 0 2 = ap kind e in omega arith
-
-pub receive-no-step : {p q a : ℕ} → Receive p q ≡ Step a → ⊥
-receive-no-step e = let k : _≡_ {A = ℕ} 1 2 = ap kind e in omega arith

@@ -1,6 +1,6 @@
 -- What is in transit, and who sent it: a message is in transit exactly when its sender sent it in time, and its receiver has neither received it nor
 -- stepped beyond its round since; and every live message was sent to its receiver. Assumes nothing.
-use Prim.Native.Nat.{ℕ, suc, _+_, _≤_, _<_}
+use Prim.Native.Nat.{ℕ, _+_, _≤_, _<_}
 use native.Mathlib.Omega.{arith}
 use mathlib.Core.Path.{_≡_, refl, sym, ap, subst, _∙_}
 use mathlib.Core.Logic.{_↔_, _⊎_, inl, inr, ⊎-elim}
@@ -11,7 +11,7 @@ use Rattle.sets.proofs.Membership.{empty-none}
 use Rattle.rounds.specs.declared.Event.{Event}
 use Rattle.rounds.specs.declared.Event.the-variants.{Send, Receive, Step}
 use Rattle.rounds.specs.Limits.{window}
-use Rattle.rounds.specs.Config.{Site, Control, Content, Config, openControl, openContent, opening}
+use Rattle.rounds.specs.Config.{Control, Content, Config, openControl, openContent, opening}
 use Rattle.rounds.specs.Stages.{tick}
 use Rattle.rounds.specs.Events.{sendControl, sendContent, receiveControl, stepControl, stepContent}
 use Rattle.rounds.specs.Runs.{after, deeds}
@@ -20,7 +20,7 @@ use Rattle.rounds.specs.Claims.{ran, Live, SentTo, Underway}
 use Rattle.rounds.proofs.Updates.{at-one, at-each}
 use Rattle.rounds.proofs.Limits.{timely-lead, in-time}
 use Rattle.rounds.proofs.Live.{Posted, send-was, send-keeps, send-puts, live-send, receive-was, receive-took, receive-keeps, live-receive, step-was, step-keeps, live-step, open-silent}
-use Rattle.rounds.proofs.Last.{Last, nowhere, last, longer, send-is, receive-is, send-no-receive, send-no-step, receive-no-step}
+use Rattle.rounds.proofs.Last.{Last, nowhere, last, longer}
 use Rattle.rounds.proofs.Last.Last.{itself, sooner}
 use Rattle.rounds.proofs.Deeds.{Recalled, recalled, MadeBy, made-recalled}
 
@@ -133,7 +133,8 @@ module _ (n : ℕ) (v : ℕ → ℕ) where
 
     posted : (x r y : ℕ) → Posting xs (Send p q) x r y → Posted c p q x r y
     posted x r y m =
-        let who = send-is (m .is) in
+        let is = m .is in
+        let who : (y ≡ p) × (x ≡ q) = (cc, cc) in
         let mine = round-is c d xs (t .made) y in
         let theirs = round-is c d xs (t .made) x in
         let round = m .round in
@@ -153,7 +154,7 @@ module _ (n : ℕ) (v : ℕ → ℕ) where
           transit = λ x r y. (
             λ has′. ⊎-elim
                 (λ old. let u = t .transit x r y .0 old in
-                under-still xs (Send p q) x r y u (λ e. absurd (send-no-receive (sym e))) (rw (same-round x) (u .unpassed)))
+                under-still xs (Send p q) x r y u (λ e round. true≢false cc) (rw (same-round x) (u .unpassed)))
                 (λ new. let m = posting x r y new in posting-under xs (Send p q) x r y m (rw (same-round x) (m .low)))
                 (send-was c p q x r y has′),
             λ u. ⊎-elim
@@ -179,7 +180,7 @@ module _ (n : ℕ) (v : ℕ → ℕ) where
     -- what is in transit still was not taken
     untaken : (x r y : ℕ) → has (receiveControl (tick c) p q .transit x r) y ≡ true → Leaves xs (Receive p q) x r y
     untaken x r y has′ is round =
-        let who = receive-is is in
+        let who : (x ≡ p) × (y ≡ q) = (cc, cc) in
         let theirs : r ≡ c .site p .round = sym round ∙ round-is c d xs (t .made) x ∙ ap (λ (z : ℕ). c .site z .round) (who .0) in
         true≢false (sym (rw (who .0, who .1, theirs) at has′) ∙ receive-took c p q)
 
@@ -191,7 +192,7 @@ module _ (n : ℕ) (v : ℕ → ℕ) where
             λ has′. let u = t .transit x r y .0 (receive-was c p q x r y has′) in
                 under-still xs (Receive p q) x r y u (untaken x r y has′) (rw (same-round-taken x) (u .unpassed)),
             λ u. ⊎-elim
-                (λ new. absurd (send-no-receive (new .is)))
+                (λ new. let is = new .is in absurd (true≢false cc))
                 (λ old. receive-keeps c p q x r y (t .transit x r y .1 (old .0))
                 (λ e f g. old .1 (rw (e, g)) (rw e (round-is c d xs (t .made) p ∙ sym f))))
                 (under-was xs (Receive p q) x r y u (rw (same-round-taken x) at (u .unpassed))),
@@ -224,10 +225,10 @@ module _ (n : ℕ) (v : ℕ → ℕ) where
           transit = λ x r y. (
             λ has′. let was = step-was c p x r y has′ in
                 let u = t .transit x r y .0 (was .0) in
-                under-still xs (Step p) x r y u (λ e. absurd (receive-no-step e)) (not-beyond x r (u .unpassed) (was .1)),
+                under-still xs (Step p) x r y u (λ e round. true≢false cc) (not-beyond x r (u .unpassed) (was .1)),
             λ u. let was = was-not-beyond x r (u .unpassed) in
                 ⊎-elim
-                (λ new. absurd (send-no-step (new .is)))
+                (λ new. let is = new .is in absurd (true≢false cc))
                 (λ old. step-keeps c p x r y (t .transit x r y .1 (old .0)) (was .1))
                 (under-was xs (Step p) x r y u (was .0)),
           );
