@@ -1,5 +1,5 @@
 -- Start at Demands, the front page. Below it stand, in this order: the examples; what a verdict tells; that a run is made of accepted sends,
--- receives and steps; what each of these keeps; and what follows for runs.
+-- receives and steps; what each of these keeps and does; what the deeds of a run tell; and what follows for runs.
 pub mod Demands
 pub mod AllExamples
 pub mod NotAToy
