@@ -7,7 +7,6 @@ use mathlib.Core.List.{List, _++_, append-assoc, append-nil}
 use borrow.Author.Tests.{lt-ltb, le-ltb}
 use Rattle.rounds.specs.Config.{Config}
 use Rattle.words.specs.Layout.{Mem}
-use Rattle.words.specs.Spelled.{controlOf}
 use Rattle.words.specs.Shows.{Shows, standing}
 use Rattle.words.proofs.Reading.{size-means, events-means, site-means}
 use Rattle.lines.specs.Text.{wLine, vLine, eLine}
@@ -47,7 +46,7 @@ module _ (m : Mem) (c : Config) (shown : Shows m c) (number : ℕ) where
       rw (size-means m c shown, le-ltb (n + k) n (omega arith), lt-ltb (n + k) (n + n) (omega arith), back, site-means m c shown k l)
 
   at-e : closingLine m number (n + n + 0) ≡ eLine (c .control .events) number
-  unfolding closingLine controlOf
+  unfolding closingLine
   at-e =
       let e : n + n + 0 ≡ n + n = omega arith in
       rw (e, size-means m c shown, le-ltb (n + n) n (omega arith), le-ltb (n + n) (n + n) (omega arith), events-means m c shown)

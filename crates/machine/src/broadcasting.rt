@@ -17,7 +17,7 @@ ghost use Rattle.rounds.specs.Verdicts.{verdict, sendVerdict, firstRefusal};
 ghost use Rattle.words.specs.declared.Answer.the-variants.{Judged};
 ghost use Rattle.words.specs.Spelled.{controlOf};
 ghost use Rattle.words.specs.Calls as Calls;
-ghost use Rattle.words.specs.Calls.{applied};
+ghost use Rattle.words.specs.Exact.{Tried};
 ghost use Rattle.words.specs.Shows.{Shows, Meant};
 
 // A refusal that came before goes through.
@@ -71,7 +71,7 @@ fn carry_sends(run: &mut [u32; RUN], p: u32, n: u32)
 
 // Process p sends to all.
 pub fn broadcast(run: &mut [u32; RUN], p: u8) -> Verdict
-    ensures exact { λ r. ⌜ (r ≡ verdict (controlOf (now (run .entry))) (Broadcast p)) × (now (run .exit) ≡ applied (now (run .entry)) (Broadcast p)) ⌝ }
+    ensures exact { λ r. ⌜ Tried (now (run .entry)) (Broadcast p) r (now (run .exit)) ⌝ }
     ensures meaning { λ r. ⌜ ((c : Config) → Shows (now (run .entry)) c → Meant (Judged r) (now (run .exit)) c (Broadcast p)) ⌝ }
 {
     let i = p as u32;

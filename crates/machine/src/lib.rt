@@ -28,8 +28,7 @@ use words::Answer;
 ghost use mathlib.Core.Path.{_≡_};
 ghost use Rattle.rounds.specs.Config.{Config};
 ghost use Rattle.rounds.specs.Verdicts as Verdicts;
-ghost use Rattle.words.specs.Spelled.{controlOf};
-ghost use Rattle.words.specs.Calls.{applied, answer};
+ghost use Rattle.words.specs.Exact.{Answered};
 ghost use Rattle.words.specs.Shows.{Shows, Meant};
 
 // Whether a verdict accepts.
@@ -41,7 +40,7 @@ pub(crate) fn accepted(v: Verdict) -> bool
 
 // Any event.
 pub fn apply(run: &mut [u32; RUN], e: Event) -> Answer
-    ensures exact { λ r. ⌜ (r ≡ answer (controlOf (now (run .entry))) e) × (now (run .exit) ≡ applied (now (run .entry)) e) ⌝ }
+    ensures exact { λ r. ⌜ Answered (now (run .entry)) e r (now (run .exit)) ⌝ }
     ensures meaning { λ r. ⌜ ((c : Config) → Shows (now (run .entry)) c → Meant r (now (run .exit)) c e) ⌝ }
 {
     match e {

@@ -12,7 +12,7 @@ ghost use Rattle.rounds.specs.Verdicts.{openVerdict};
 ghost use Rattle.rounds.specs.declared.Verdict.the-variants.{Accepted};
 ghost use Rattle.words.specs.Layout as Layout;
 ghost use Rattle.words.specs.Calls as Calls;
-ghost use Rattle.words.specs.Calls.{blank, begins};
+ghost use Rattle.words.specs.Exact.{Cleared, Begun};
 ghost use Rattle.words.specs.Shows.{Shows, Given};
 
 // The tests of an opening, in document 01's order.
@@ -41,7 +41,7 @@ fn extent(run: &[u32; RUN]) -> usize
 
 // No run is there: every word is 0.
 pub fn clear(run: &mut [u32; RUN])
-    ensures exact { λ r. ⌜ now (run .exit) ≡ blank ⌝ }
+    ensures exact { λ r. ⌜ Cleared (now (run .exit)) ⌝ }
     ensures meaning { λ r. ⌜ Shows (now (run .exit)) noRun ⌝ }
 {
     let end = extent(&*run);
@@ -77,7 +77,7 @@ fn place_all(run: &mut [u32; RUN], values: &[u32])
 
 // A run of n processes begins, with their values.
 pub fn begin(run: &mut [u32; RUN], n: u32, values: &[u32]) -> Verdict
-    ensures exact { λ r. ⌜ (r ≡ openVerdict n (length (now (values .entry)))) × (now (run .exit) ≡ begins (now (run .entry)) n (now (values .entry))) ⌝ }
+    ensures exact { λ r. ⌜ Begun (now (run .entry)) n (now (values .entry)) r (now (run .exit)) ⌝ }
     ensures meaning { λ r. ⌜ (r ≡ Accepted → (v : ℕ → ℕ) → Given n (now (values .entry)) v → Shows (now (run .exit)) (opening n v)) ⌝ }
 {
     let v = judge_opening(n, values.len());

@@ -9,16 +9,13 @@ ghost use Prim.Native.Nat.{_<_};
 ghost use mathlib.Core.Path.{_≡_};
 ghost use Rattle.rounds.specs.Config.{Config};
 ghost use Rattle.rounds.specs.Stages as Stages;
-ghost use Rattle.words.specs.Layout as Layout;
-ghost use Rattle.words.specs.Layout.{get, Head};
-ghost use Rattle.words.specs.Spelled as Spelled;
 ghost use Rattle.words.specs.Spelled.{word, countOf};
-ghost use Rattle.words.specs.Calls.{standingOf};
+ghost use Rattle.words.specs.Exact.{SizeRead, EventsRead, SiteRead};
 ghost use Rattle.words.specs.Shows.{Shows, standing};
 
 // The number of processes.
 pub fn size(run: &[u32; RUN]) -> u32
-    ensures exact { λ r. ⌜ r ≡ Spelled.people (now (run .entry)) ⌝ }
+    ensures exact { λ r. ⌜ SizeRead (now (run .entry)) r ⌝ }
     ensures meaning { λ r. ⌜ ((c : Config) → Shows (now (run .entry)) c → r ≡ c .control .size) ⌝ }
 {
     people(run)
@@ -26,7 +23,7 @@ pub fn size(run: &[u32; RUN]) -> u32
 
 // The accepted events.
 pub fn events(run: &[u32; RUN]) -> u32
-    ensures exact { λ r. ⌜ r ≡ get (now (run .entry)) (Head Layout.EVENTS) ⌝ }
+    ensures exact { λ r. ⌜ EventsRead (now (run .entry)) r ⌝ }
     ensures meaning { λ r. ⌜ ((c : Config) → Shows (now (run .entry)) c → r ≡ c .control .events) ⌝ }
 {
     head(run, EVENTS)
@@ -58,7 +55,7 @@ fn count(run: &[u32; RUN], p: u32, s: Stage) -> u32
 
 // What is shown of process p; of one that is not there, nothing.
 pub fn site(run: &[u32; RUN], p: u8) -> Standing
-    ensures exact { λ r. ⌜ r ≡ standingOf (now (run .entry)) p ⌝ }
+    ensures exact { λ r. ⌜ SiteRead (now (run .entry)) p r ⌝ }
     ensures meaning { λ r. ⌜ ((c : Config) → Shows (now (run .entry)) c → p < c .control .size → r ≡ standing c p) ⌝ }
 {
     let i = p as u32;

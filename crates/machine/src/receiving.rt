@@ -14,7 +14,7 @@ ghost use Rattle.rounds.specs.Verdicts.{verdict};
 ghost use Rattle.words.specs.declared.Answer.the-variants.{Judged};
 ghost use Rattle.words.specs.Spelled.{controlOf};
 ghost use Rattle.words.specs.Calls as Calls;
-ghost use Rattle.words.specs.Calls.{applied};
+ghost use Rattle.words.specs.Exact.{Tried};
 ghost use Rattle.words.specs.Shows.{Shows, Meant};
 
 // The tests of a receive, in document 01's order.
@@ -60,7 +60,7 @@ fn carry_receive(run: &mut [u32; RUN], p: u32, q: u32)
 
 // Process p receives from q.
 pub fn receive(run: &mut [u32; RUN], p: u8, q: u8) -> Verdict
-    ensures exact { λ r. ⌜ (r ≡ verdict (controlOf (now (run .entry))) (Receive p q)) × (now (run .exit) ≡ applied (now (run .entry)) (Receive p q)) ⌝ }
+    ensures exact { λ r. ⌜ Tried (now (run .entry)) (Receive p q) r (now (run .exit)) ⌝ }
     ensures meaning { λ r. ⌜ ((c : Config) → Shows (now (run .entry)) c → Meant (Judged r) (now (run .exit)) c (Receive p q)) ⌝ }
 {
     let i = p as u32;

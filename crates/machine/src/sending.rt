@@ -15,7 +15,7 @@ ghost use Rattle.rounds.specs.Verdicts.{verdict, sendVerdict};
 ghost use Rattle.words.specs.declared.Answer.the-variants.{Judged};
 ghost use Rattle.words.specs.Spelled.{controlOf};
 ghost use Rattle.words.specs.Calls as Calls;
-ghost use Rattle.words.specs.Calls.{applied};
+ghost use Rattle.words.specs.Exact.{Tried};
 ghost use Rattle.words.specs.Shows.{Shows, Meant};
 
 // What becomes of a message of a sender at round r to a receiver at round s: the lead is a signed number.
@@ -121,7 +121,7 @@ pub(crate) fn carry_send(run: &mut [u32; RUN], p: u32, q: u32)
 
 // Process p sends to q.
 pub fn send(run: &mut [u32; RUN], p: u8, q: u8) -> Verdict
-    ensures exact { λ r. ⌜ (r ≡ verdict (controlOf (now (run .entry))) (Send p q)) × (now (run .exit) ≡ applied (now (run .entry)) (Send p q)) ⌝ }
+    ensures exact { λ r. ⌜ Tried (now (run .entry)) (Send p q) r (now (run .exit)) ⌝ }
     ensures meaning { λ r. ⌜ ((c : Config) → Shows (now (run .entry)) c → Meant (Judged r) (now (run .exit)) c (Send p q)) ⌝ }
 {
     let i = p as u32;

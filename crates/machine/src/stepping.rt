@@ -16,7 +16,8 @@ ghost use Rattle.rounds.specs.Config.{Config};
 ghost use Rattle.rounds.specs.Verdicts.{verdict};
 ghost use Rattle.words.specs.Spelled.{controlOf};
 ghost use Rattle.words.specs.Calls as Calls;
-ghost use Rattle.words.specs.Calls.{messagesBelow, reachBelow, applied, answer};
+ghost use Rattle.words.specs.Calls.{messagesBelow, reachBelow};
+ghost use Rattle.words.specs.Exact.{Answered};
 ghost use Rattle.words.specs.Shows.{Shows, Meant};
 
 // What a process has heard in a round, and its reach with what it heard.
@@ -116,7 +117,7 @@ fn carry_step(run: &mut [u32; RUN], p: u32)
 
 // Process p steps to its next round.
 pub fn step(run: &mut [u32; RUN], p: u8) -> Answer
-    ensures exact { λ r. ⌜ (r ≡ answer (controlOf (now (run .entry))) (Step p)) × (now (run .exit) ≡ applied (now (run .entry)) (Step p)) ⌝ }
+    ensures exact { λ r. ⌜ Answered (now (run .entry)) (Step p) r (now (run .exit)) ⌝ }
     ensures meaning { λ r. ⌜ ((c : Config) → Shows (now (run .entry)) c → Meant r (now (run .exit)) c (Step p)) ⌝ }
 {
     let i = p as u32;

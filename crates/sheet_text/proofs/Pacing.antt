@@ -9,7 +9,7 @@ use lib.Dec.{ltb}
 use lib.ListN.{length, getD, take, drop, length-drop}
 use lib.Seq.{drop-drop, getD-drop}
 use Rattle.words.specs.declared.Standing.{Standing}
-use Rattle.words.specs.Layout.{Mem, Head, get, EVENTS}
+use Rattle.words.specs.Layout.{Mem}
 use Rattle.words.specs.Spelled.{controlOf, people}
 use Rattle.words.specs.Calls.{standingOf}
 use Rattle.records.specs.declared.Place.{Place}
@@ -177,8 +177,8 @@ module _ (m : Mem) (number k n : ℕ) (q : n ≡ people m) where
   unfolding closingLine
   closing-v l h e = rw (← q, le-ltb k n l, lt-ltb k (n + n) h, ← e)
 
-  pub closing-e : {events : ℕ} → n ≤ k → n + n ≤ k → events ≡ get m (Head EVENTS) → closingLine m number k ≡ eLine events number
-  unfolding closingLine controlOf
+  pub closing-e : {events : ℕ} → n ≤ k → n + n ≤ k → events ≡ controlOf m .events → closingLine m number k ≡ eLine events number
+  unfolding closingLine
   closing-e l h e = rw (← q, le-ltb k n l, le-ltb k (n + n) h, ← e)
 
 -- ---- the loop that closes

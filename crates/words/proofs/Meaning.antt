@@ -28,8 +28,9 @@ use Rattle.words.specs.declared.Answer.{Answer}
 use Rattle.words.specs.declared.Answer.the-variants.{Judged}
 use Rattle.words.specs.declared.Standing.{Standing}
 use Rattle.words.specs.Layout.{Mem}
-use Rattle.words.specs.Spelled.{people, controlOf}
-use Rattle.words.specs.Calls.{blank, opened, begins, sentBelow, done, applied, answer, standingOf}
+use Rattle.words.specs.Spelled.{controlOf}
+use Rattle.words.specs.Calls.{blank, opened, begins, sentBelow, done, applied, answer}
+use Rattle.words.specs.Exact.{Cleared, Begun, Tried, Answered, SizeRead, EventsRead, SiteRead}
 use Rattle.words.specs.Shows.{Shown, Shows, Meant, Given, standing}
 use Rattle.words.proofs.Spelling.{people-shown}
 use Rattle.words.proofs.Sending.{sent-shows}
@@ -38,7 +39,7 @@ use Rattle.words.proofs.Stepping.{stepped-shows}
 use Rattle.words.proofs.Fitting.{fit, round-top, beyond-empty}
 use Rattle.words.proofs.Answering.{verdict-shown, answer-shown}
 use Rattle.words.proofs.Opening.{blank-shown, opened-shown}
-use Rattle.words.proofs.Reading.{size-means, site-means}
+use Rattle.words.proofs.Reading.{size-means, events-means, site-means}
 
 -- ---- an accepted event
 module _ (m : Mem) (c : Control) (d : Content) (v : ℕ → ℕ) {rs : List Report} (l : FromOpening (c .size) v c d rs) (few : c .size ≤ mostProcesses)
@@ -128,25 +129,27 @@ begin-anew m b n xs a = rw a
 -- ---- the promises of the calls: what is exact, and with it what that means
 -- a call that answers with a verdict
 pub judged-meant : (m : Mem) (e : Event) → answer (controlOf m) e ≡ Judged (verdict (controlOf m) e) → {r : Verdict} {b : Mem}
-    → (r ≡ verdict (controlOf m) e) × (b ≡ applied m e)
-    → ((r ≡ verdict (controlOf m) e) × (b ≡ applied m e)) × ((c : Config) → Shows m c → Meant (Judged r) b c e)
+    → Tried m e r b → Tried m e r b × ((c : Config) → Shows m c → Meant (Judged r) b c e)
 judged-meant m e plain x = (x, λ c k. rw (x .0, x .1, ← plain) (means m c e k))
 
 -- a call that answers with an answer
-pub answered-meant : (m : Mem) (e : Event) {a : Answer} {b : Mem} → (a ≡ answer (controlOf m) e) × (b ≡ applied m e)
-    → ((a ≡ answer (controlOf m) e) × (b ≡ applied m e)) × ((c : Config) → Shows m c → Meant a b c e)
+pub answered-meant : (m : Mem) (e : Event) {a : Answer} {b : Mem} → Answered m e a b
+    → Answered m e a b × ((c : Config) → Shows m c → Meant a b c e)
 answered-meant m e x = (x, λ c k. rw (x .0, x .1) (means m c e k))
 
-pub begin-meant : (m : Mem) (n : ℕ) (xs : List ℕ) {r : Verdict} {b : Mem} → (r ≡ openVerdict n (length xs)) × (b ≡ begins m n xs)
-    → ((r ≡ openVerdict n (length xs)) × (b ≡ begins m n xs)) × (r ≡ Accepted → (v : ℕ → ℕ) → Given n xs v → Shows b (opening n v))
+pub begin-meant : (m : Mem) (n : ℕ) (xs : List ℕ) {r : Verdict} {b : Mem} → Begun m n xs r b
+    → Begun m n xs r b × (r ≡ Accepted → (v : ℕ → ℕ) → Given n xs v → Shows b (opening n v))
 begin-meant m n xs x = (x, λ a v given. rw (x .1) (begin-means m n xs v (sym (x .0) ∙ a) given))
 
-pub clear-meant : {b : Mem} → b ≡ blank → (b ≡ blank) × Shows b noRun
+pub clear-meant : {b : Mem} → Cleared b → Cleared b × Shows b noRun
 clear-meant x = (x, rw x blank-shows)
 
-pub size-meant : (m : Mem) {r : ℕ} → r ≡ people m → (r ≡ people m) × ((c : Config) → Shows m c → r ≡ c .control .size)
+pub size-meant : (m : Mem) {r : ℕ} → SizeRead m r → SizeRead m r × ((c : Config) → Shows m c → r ≡ c .control .size)
 size-meant m x = (x, λ c k. x ∙ size-means m c k)
 
-pub site-meant : (m : Mem) (p : ℕ) {r : Standing} → r ≡ standingOf m p
-    → (r ≡ standingOf m p) × ((c : Config) → Shows m c → p < c .control .size → r ≡ standing c p)
+pub events-meant : (m : Mem) {r : ℕ} → EventsRead m r → EventsRead m r × ((c : Config) → Shows m c → r ≡ c .control .events)
+events-meant m x = (x, λ c k. x ∙ events-means m c k)
+
+pub site-meant : (m : Mem) (p : ℕ) {r : Standing} → SiteRead m p r
+    → SiteRead m p r × ((c : Config) → Shows m c → p < c .control .size → r ≡ standing c p)
 site-meant m p x = (x, λ c k h. x ∙ site-means m c k p h)

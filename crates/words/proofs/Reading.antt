@@ -11,8 +11,8 @@ use Rattle.rounds.specs.declared.Stage.{Stage}
 use Rattle.rounds.specs.declared.Stage.the-variants.{Sending, Collecting, Pending, Idle}
 use Rattle.rounds.specs.Config.{Config}
 use Rattle.rounds.specs.Claims.{total}
-use Rattle.words.specs.Layout.{Mem, Head, get, SIZE, EVENTS}
-use Rattle.words.specs.Spelled.{word, people, countOf}
+use Rattle.words.specs.Layout.{Mem, Head, get, SIZE}
+use Rattle.words.specs.Spelled.{word, people, controlOf, countOf}
 use Rattle.words.specs.Calls.{standingOf}
 use Rattle.words.specs.Shows.{Shows, standing}
 use Rattle.words.proofs.Spelling.{round-word, reach-word, people-shown, stage-shown}
@@ -31,7 +31,8 @@ module _ (m : Mem) (c : Config) (k : Shows m c) where
   pub size-means : people m ≡ c .control .size
   size-means = people-shown m (c .control) (c .content) (k .shown) (k .few)
 
-  pub events-means : get m (Head EVENTS) ≡ c .control .events
+  pub events-means : controlOf m .events ≡ c .control .events
+  unfolding controlOf
   events-means = k .shown .events
 
   abbrev fits : Fit (c .control)
