@@ -7,7 +7,6 @@ use Rattle.rounds.specs.Verdicts.{numberOf}
 use Rattle.rounds.specs.Runs.{nightVerdict, night}
 use Rattle.words.specs.Layout.{Mem}
 use Rattle.words.specs.Calls.{nightWords}
-use Rattle.words.specs.Shows.{Shows}
 use Rattle.records.specs.declared.Place.the-variants.{First}
 use Rattle.records.specs.declared.Record.the-variants.{Opening}
 use Rattle.records.specs.Records.{parse}
@@ -16,7 +15,7 @@ use Rattle.trace.specs.Outcome.{endingNumber, outcome}
 use Rattle.trace.specs.Turns.{traceWords}
 use Rattle.trace.proofs.Meaning.{read-whole}
 use Rattle.listed.specs.declared.Event as listed
-use Rattle.listed.specs.Listed.{eventsOf}
+use Rattle.listed.specs.Listed.{eventsOf, Passed}
 
 -- what a trace opens with and what happens in it, and a list with the same beside it
 pub record Lists (w : List ℕ) (n : ℕ) (values : List ℕ) (events : List listed.Event) : Type 0 where
@@ -42,9 +41,7 @@ same-run w n values events z l =
       run = rw (l .values-are, l .events-are, ← size) (k .run);
     }
 
--- two results that the contract of `replay_list` allows are equal, the whole memory included
+-- two results that the contract of `replay_list`, and of `replay_six`, allows are equal, the whole memory included
 pub replay-list-determined : (n : ℕ) (values : List ℕ) (events : List listed.Event) {r s : ℕ} {x y : Mem}
-    → (r ≡ numberOf (nightVerdict n values (eventsOf events))) × (x ≡ nightWords n values (eventsOf events)) × Shows x (night n values (eventsOf events))
-    → (s ≡ numberOf (nightVerdict n values (eventsOf events))) × (y ≡ nightWords n values (eventsOf events)) × Shows y (night n values (eventsOf events))
-    → (r ≡ s) × (x ≡ y)
+    → Passed n values events r x → Passed n values events s y → (r ≡ s) × (x ≡ y)
 replay-list-determined n values events p q = (determined (p .0) (q .0), determined (p .1) (q .1))

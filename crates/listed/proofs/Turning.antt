@@ -20,8 +20,9 @@ use Rattle.words.proofs.Meaning.{refused-unchanged}
 use Rattle.words.proofs.Replaying as Replaying
 use Rattle.listed.specs.declared.Event.{Event}
 use Rattle.listed.specs.Listed.{eventOf, eventsOf}
+pub use Rattle.listed.specs.Listed.{Passed}
 
--- ---- what is promised of an event, of a list, of an opening and of a night: the number given back, and the words afterwards
+-- ---- what is promised of an event, of a list and of an opening, as `Passed` of a night: the number given back, and the words afterwards
 abbrev pub Happened : Mem → Event → ℕ → Mem → Type 0
 Happened m e r m′ = (r ≡ numberOf (verdict (controlOf m) (eventOf e))) × (m′ ≡ applied m (eventOf e))
 
@@ -30,10 +31,6 @@ Followed m es r m′ = (r ≡ numberOf (replayedVerdict m (eventsOf es))) × (m�
 
 abbrev pub Started : ℕ → List ℕ → ℕ → Mem → Type 0
 Started n xs r m = (r ≡ numberOf (openVerdict n (length xs))) × (m ≡ begins blank n xs)
-
-abbrev pub Passed : ℕ → List ℕ → List Event → ℕ → Mem → Type 0
-Passed n xs es r m =
-    (r ≡ numberOf (nightVerdict n xs (eventsOf es))) × (m ≡ nightWords n xs (eventsOf es)) × Shows m (night n xs (eventsOf es))
 
 -- the list from the place i on comes on m to what the whole list comes to on m₀
 abbrev pub Remains : Mem → List Event → ℕ → Mem → Type 0

@@ -4,11 +4,9 @@ use machine::RUN;
 ghost use mathlib.Core.Path.{_≡_};
 ghost use lib.ListN.{length};
 ghost use Rattle.rounds.specs.Verdicts.{numberOf, openVerdict, verdict};
-ghost use Rattle.rounds.specs.Runs.{nightVerdict, night};
 ghost use Rattle.words.specs.Spelled.{controlOf};
-ghost use Rattle.words.specs.Calls.{blank, begins, applied, replayed, replayedVerdict, nightWords};
-ghost use Rattle.words.specs.Shows.{Shows};
-ghost use Rattle.listed.specs.Listed.{eventOf, eventsOf};
+ghost use Rattle.words.specs.Calls.{blank, begins, applied, replayed, replayedVerdict};
+ghost use Rattle.listed.specs.Listed.{eventOf, eventsOf, Passed};
 
 // The kinds of events.
 pub enum Kind {
@@ -73,9 +71,7 @@ fn start(run: &mut [u32; RUN], n: u32, values: &[u32]) -> u32
 
 // The replay of a list beside N and the opening values.
 pub fn replay_list(run: &mut [u32; RUN], n: u32, values: &[u32], events: &[Event]) -> u32
-    ensures { λ r. ⌜ (r ≡ numberOf (nightVerdict n (now (values .entry)) (eventsOf (now (events .entry)))))
-        × (now (run .exit) ≡ nightWords n (now (values .entry)) (eventsOf (now (events .entry))))
-        × Shows (now (run .exit)) (night n (now (values .entry)) (eventsOf (now (events .entry)))) ⌝ }
+    ensures { λ r. ⌜ Passed n (now (values .entry)) (now (events .entry)) r (now (run .exit)) ⌝ }
 {
     let number = start(run, n, values);
     if number != 0 {
@@ -86,9 +82,7 @@ pub fn replay_list(run: &mut [u32; RUN], n: u32, values: &[u32], events: &[Event
 
 // The same for six events by value: whoever has no lent list calls this one.
 pub fn replay_six(run: &mut [u32; RUN], n: u32, values: &[u32], events: [Event; 6]) -> u32
-    ensures { λ r. ⌜ (r ≡ numberOf (nightVerdict n (now (values .entry)) (eventsOf events)))
-        × (now (run .exit) ≡ nightWords n (now (values .entry)) (eventsOf events))
-        × Shows (now (run .exit)) (night n (now (values .entry)) (eventsOf events)) ⌝ }
+    ensures { λ r. ⌜ Passed n (now (values .entry)) events r (now (run .exit)) ⌝ }
 {
     replay_list(run, n, values, &events)
 }

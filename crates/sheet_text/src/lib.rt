@@ -14,12 +14,10 @@ ghost use Prim.Native.Nat.{_+_, _-_, _≤_};
 ghost use mathlib.Core.Path.{_≡_};
 ghost use mathlib.Core.List.{[]};
 ghost use lib.ListN.{length, take, drop};
-ghost use lib.Seq.{slice};
-ghost use Rattle.words.specs.Calls.{blank};
 ghost use Rattle.records.specs.Stored.{over};
 ghost use Rattle.lines.specs.Pieces as Pieces;
 ghost use Rattle.lines.specs.Pieces.{lineRoom, Came};
-ghost use Rattle.lines.specs.Claims as Claims;
+ghost use Rattle.sheet_text.specs.Exact.{SheetBegun, BytesKept};
 ghost use Rattle.sheet_text.specs.Written.{Wrote};
 
 // The room that is asked for before a line: that of the longest there can be.
@@ -27,7 +25,7 @@ const LINE: usize = 66;
 
 // A sheet begins: the memory is cleared, whatever it held.
 pub fn begin(run: &mut [u32; RUN]) -> Stand
-    ensures { λ r. ⌜ (r ≡ Claims.first) × (now (run .exit) ≡ blank) ⌝ }
+    ensures { λ r. ⌜ SheetBegun r (now (run .exit)) ⌝ }
 {
     machine::clear(run);
     Stand::Reads(Place::First)
@@ -173,7 +171,7 @@ fn up_to(bytes: &[u8], to: usize) -> usize
 
 // Keeps the bytes from one place up to another: they are moved to the front. Answers how many they are; where there are none, nothing is moved.
 pub fn keep(bytes: &mut [u8], from: usize, to: usize) -> usize
-    ensures { λ r. ⌜ (r ≡ length (slice from to (now (bytes .entry)))) × (now (bytes .exit) ≡ over (slice from to (now (bytes .entry))) (now (bytes .entry))) ⌝ }
+    ensures { λ r. ⌜ BytesKept (now (bytes .entry)) from to r (now (bytes .exit)) ⌝ }
 {
     let end = up_to(bytes, to);
     if end <= from {

@@ -7,7 +7,6 @@ use mathlib.Core.List.{List}
 use borrow.Author.Tests.{lt-ltb, le-ltb}
 use lib.ListN.{length}
 use lib.Seq.{sets}
-use Rattle.sets.proofs.Determined.{determined}
 use Rattle.rounds.specs.Config.{Config}
 use Rattle.words.specs.Layout.{Mem}
 use Rattle.words.specs.Spelled.{people}
@@ -20,7 +19,7 @@ use Rattle.trace.specs.declared.Ending.{Ending}
 use Rattle.trace.specs.Outcome.{endingNumber, outcome}
 use Rattle.trace.specs.Claims.{Revalued}
 use Rattle.trace.proofs.Values.{values-alone}
-use Rattle.tongsparkle.specs.Report.{row, rows, reportOf, room, numberGiven, reportLeft, rowOf, rowsBelow}
+use Rattle.tongsparkle.specs.Report.{row, rows, reportOf, room, numberGiven, reportLeft, Reported, rowOf, rowsBelow}
 use Rattle.tongsparkle.proofs.Bytes.{rows-length}
 
 -- ---- what is written of a memory is the report of the run that it shows
@@ -40,13 +39,13 @@ module _ (m : Mem) (c : Config) (k : Shows m c) where
       ∙ ap (λ (w : List ℕ). over w report) (rw (size-means m c k) (rows-shown n (omega arith)))
 
 -- ---- so the call, with too little room and with enough of it, gives and leaves what it must
-pub no-room : (w report : List ℕ) → length report < room → (14 ≡ numberGiven w report) × (report ≡ reportLeft w report)
+pub no-room : (w report : List ℕ) → length report < room → Reported w report 14 report
 unfolding numberGiven reportLeft
 no-room w report h = (rw (lt-ltb (length report) room h), rw (lt-ltb (length report) room h))
 
 pub room-enough : (w report : List ℕ) {m : Mem} {x : Ending} {r : ℕ} {left : List ℕ} → room ≤ length report → Shows m (outcome w .config)
     → x ≡ outcome w .ending → r ≡ endingNumber x → left ≡ sets report 0 (rowsBelow (people m) (standingOf m))
-    → (r ≡ numberGiven w report) × (left ≡ reportLeft w report)
+    → Reported w report r left
 unfolding numberGiven reportLeft
 room-enough w report {m} h k ends number rows =
     (rw (le-ltb (length report) room h, ← ends) number, rw (le-ltb (length report) room h) (rows ∙ report-shown m (outcome w .config) k report h))
@@ -55,8 +54,3 @@ room-enough w report {m} h k ends number rows =
 pub report-blind : (w u report : List ℕ) → Revalued w u → (numberGiven w report ≡ numberGiven u report) × (reportLeft w report ≡ reportLeft u report)
 unfolding numberGiven reportLeft
 report-blind w u report d = let b = values-alone w u d in (rw (b .ending), rw (b .control))
-
--- ---- two results that the contract allows are equal
-pub replay-determined : (w report : List ℕ) {r s : ℕ} {x y : List ℕ} → (r ≡ numberGiven w report) × (x ≡ reportLeft w report)
-    → (s ≡ numberGiven w report) × (y ≡ reportLeft w report) → (r ≡ s) × (x ≡ y)
-replay-determined w report p q = (determined (p .0) (q .0), determined (p .1) (q .1))

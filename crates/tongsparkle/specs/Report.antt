@@ -1,5 +1,6 @@
 -- The report of a trace as bytes, and what the monitoring service's call gives back and leaves in it. Assumes nothing.
 use Prim.Native.Nat.{ℕ, zero, suc, _*_, _/_, _%_}
+use mathlib.Core.Path.{_≡_}
 use mathlib.Core.Bool.{cond}
 use mathlib.Core.List.{List, [], _∷_, _++_}
 use lib.Dec.{ltb}
@@ -46,6 +47,10 @@ numberGiven trace report = cond (ltb (length report) room) 14 (endingNumber (out
 
 unfoldable pub reportLeft : List ℕ → List ℕ → List ℕ
 reportLeft trace report = cond (ltb (length report) room) report (over (reportOf (outcome trace .config .control)) report)
+
+-- what the call promises: the number, and every byte of the report at exit, report′
+abbrev pub Reported : List ℕ → List ℕ → ℕ → List ℕ → Type 0
+Reported trace report r report′ = (r ≡ numberGiven trace report) × (report′ ≡ reportLeft trace report)
 
 -- ---- as the code writes it: the rows of what is shown of each process
 unfoldable pub rowOf : Standing → List ℕ

@@ -8,6 +8,7 @@ ghost use lib.Seq.{sets};
 ghost use Rattle.words.specs.Calls.{standingOf};
 ghost use Rattle.words.specs.Spelled.{people};
 ghost use Rattle.tongsparkle.specs.Report as Report;
+ghost use Rattle.tongsparkle.specs.Report.{Reported};
 
 // What stands of a process: six numbers of four bytes.
 const ROW: usize = 24;
@@ -66,8 +67,7 @@ fn put_rows(report: &mut [u8], run: &[u32; RUN])
 // Replays the trace, writes the report of what was accepted, and gives the number of document 01.
 #[no_mangle]
 pub extern "C" fn tongsparkle_replay(trace: &[u8], report: &mut [u8]) -> u32
-    ensures { λ r. ⌜ (r ≡ Report.numberGiven (now (trace .entry)) (now (report .entry)))
-        × (now (report .exit) ≡ Report.reportLeft (now (trace .entry)) (now (report .entry))) ⌝ }
+    ensures { λ r. ⌜ Reported (now (trace .entry)) (now (report .entry)) r (now (report .exit)) ⌝ }
 {
     if report.len() < ROOM {
         return NO_ROOM;

@@ -7,7 +7,6 @@ use mathlib.Core.Bool.{Bool, true, false, cond}
 use mathlib.Core.List.{List}
 use borrow.Author.Tests.{eq-eqb}
 use lib.ListN.{length}
-use Rattle.sets.proofs.Determined.{determined}
 use Rattle.rounds.specs.declared.Verdict.{Verdict}
 use Rattle.rounds.specs.declared.Verdict.the-variants.{Accepted}
 use Rattle.rounds.specs.Config.{Config, opening}
@@ -37,7 +36,7 @@ use Rattle.trace.specs.declared.Ending.the-variants.{Judged}
 use Rattle.trace.specs.declared.Turn.{Turn}
 use Rattle.trace.specs.Outcome.{endingNumber, atEnd, closing, closes, endedBy, nobody, outcomeOf, outcome}
 use Rattle.trace.specs.Claims.{Revalued}
-use Rattle.trace.specs.Haste.{haste}
+use Rattle.trace.specs.Exact.{RecordDone, TraceDone}
 use Rattle.trace.proofs.Telling.{toldAhead, told-from-the-start}
 use Rattle.trace.proofs.Values.{Blind, values-alone}
 use Rattle.trace.specs.Turns.{turnOn, turn, runOn, next, wordsOn, turned, leftBy, traceWords}
@@ -55,8 +54,7 @@ pub trace-shows : (w : List ℕ) → Shows (traceWords w) (outcome w .config)
 unfolding traceWords outcome
 trace-shows w = left-shows w (script First w) (parse First w)
 
-pub replay-meant : (w : List ℕ) {x : Ending} {m : Mem} → (x ≡ outcome w .ending) × (m ≡ traceWords w)
-    → ((x ≡ outcome w .ending) × (m ≡ traceWords w)) × Shows m (outcome w .config)
+pub replay-meant : (w : List ℕ) {x : Ending} {m : Mem} → TraceDone w x m → TraceDone w x m × Shows m (outcome w .config)
 replay-meant w p = (p, rw (p .1) (trace-shows w))
 
 -- ---- one record: where the memory shows a configuration, what comes of it is the abstract machine's, and the memory then shows the next one
@@ -78,9 +76,8 @@ module _ (m : Mem) (c : Config) (w : List ℕ) (k : Shows m c) where
   record-means (Wrong f) = (refl, k)
   record-means Cut = (refl, k)
 
-pub one-record-meant : (pl : Place) (m : Mem) (w : List ℕ) {t : Turn} {b : Mem} → (t ≡ turn pl (controlOf m) w) × (b ≡ turned pl m w)
-    → ((t ≡ turn pl (controlOf m) w) × (b ≡ turned pl m w))
-    × ((c : Config) → Shows m c → (t ≡ turn pl (c .control) w) × Shows b (next pl c w))
+pub one-record-meant : (pl : Place) (m : Mem) (w : List ℕ) {t : Turn} {b : Mem} → RecordDone pl m w t b
+    → RecordDone pl m w t b × ((c : Config) → Shows m c → (t ≡ turn pl (c .control) w) × Shows b (next pl c w))
 unfolding turn turned next
 one-record-meant pl m w p =
     (p, λ c k. let means = record-means m c w k (parse pl w) in (p .0 ∙ means .0, rw (p .1) (means .1)))
@@ -139,16 +136,3 @@ read-whole w z = go (parse First w) refl (placed First w)
     go End e h = absurd h
     go (Wrong f) e h = absurd (fault-some f (rw (e, script-wrong First w f e, e) at z))
     go Cut e h = absurd (fault-some EndsInside (rw (e, script-cut First w e, e) at z))
-
--- ---- two results that the contracts of `replay`, `one_record` and `hasten` allow are equal, the whole memory included
-pub replay-determined : (w : List ℕ) {x y : Ending} {m b : Mem} → (x ≡ outcome w .ending) × (m ≡ traceWords w) → (y ≡ outcome w .ending) × (b ≡ traceWords w)
-    → (x ≡ y) × (m ≡ b)
-replay-determined w p q = (determined (p .0) (q .0), determined (p .1) (q .1))
-
-pub one-record-determined : (pl : Place) (m : Mem) (w : List ℕ) {t u : Turn} {x y : Mem} → (t ≡ turn pl (controlOf m) w) × (x ≡ turned pl m w)
-    → (u ≡ turn pl (controlOf m) w) × (y ≡ turned pl m w) → (t ≡ u) × (x ≡ y)
-one-record-determined pl m w p q = (determined (p .0) (q .0), determined (p .1) (q .1))
-
-pub hasten-determined : (pl : Place) (m : Mem) (w : List ℕ) {r s : ℕ} {x y : Mem} → (r ≡ haste pl m w .used) × (x ≡ haste pl m w .words)
-    → (s ≡ haste pl m w .used) × (y ≡ haste pl m w .words) → (r ≡ s) × (x ≡ y)
-hasten-determined pl m w p q = (determined (p .0) (q .0), determined (p .1) (q .1))

@@ -18,6 +18,7 @@ ghost use Rattle.records.specs.Script as Script;
 ghost use Rattle.trace.specs.Outcome as Outcome;
 ghost use Rattle.trace.specs.Turns as Turns;
 ghost use Rattle.trace.specs.Haste as Haste;
+ghost use Rattle.trace.specs.Exact.{RecordDone, HasteDone, TraceDone};
 
 // What the replay of a trace ends with. Its number is that of document 01.
 pub enum Ending {
@@ -174,8 +175,7 @@ fn happened(run: &mut [u32; RUN], e: Event) -> Turn
 
 // One record: what stands at the head of the bytes is read, and handed to the machine.
 pub fn one_record(run: &mut [u32; RUN], bytes: &[u8], place: Place) -> Turn
-    ensures exact { λ r. ⌜ (r ≡ Turns.turn place (controlOf (now (run .entry))) (now (bytes .entry)))
-        × (now (run .exit) ≡ Turns.turned place (now (run .entry)) (now (bytes .entry))) ⌝ }
+    ensures exact { λ r. ⌜ RecordDone place (now (run .entry)) (now (bytes .entry)) r (now (run .exit)) ⌝ }
     ensures meaning { λ r. ⌜ ((c : Config) → Shows.Shows (now (run .entry)) c → (r ≡ Turns.turn place (c .control) (now (bytes .entry)))
         × Shows.Shows (now (run .exit)) (Turns.next place c (now (bytes .entry)))) ⌝ }
 {
@@ -231,8 +231,7 @@ fn hasten_all(run: &mut [u32; RUN], bytes: &[u8]) -> usize
 // Sends and receives are most of a trace, and tell nothing: those that stand at the head of the bytes and are accepted, all at once. Answers how many
 // bytes they are; what is done of them is what `one_record` does of each.
 pub fn hasten(run: &mut [u32; RUN], bytes: &[u8], place: Place) -> usize
-    ensures { λ r. ⌜ (r ≡ Haste.haste place (now (run .entry)) (now (bytes .entry)) .used)
-        × (now (run .exit) ≡ Haste.haste place (now (run .entry)) (now (bytes .entry)) .words) ⌝ }
+    ensures { λ r. ⌜ HasteDone place (now (run .entry)) (now (bytes .entry)) r (now (run .exit)) ⌝ }
 {
     match place {
         Place::First => 0,
@@ -243,7 +242,7 @@ pub fn hasten(run: &mut [u32; RUN], bytes: &[u8], place: Place) -> usize
 
 // A whole trace, from its opening to its end or to the first refusal. What was accepted before a refusal stands; without an accepted opening no run is there.
 pub fn replay(run: &mut [u32; RUN], trace: &[u8]) -> Ending
-    ensures exact { λ r. ⌜ (r ≡ Outcome.outcome (now (trace .entry)) .ending) × (now (run .exit) ≡ Turns.traceWords (now (trace .entry))) ⌝ }
+    ensures exact { λ r. ⌜ TraceDone (now (trace .entry)) r (now (run .exit)) ⌝ }
     ensures meaning { λ r. ⌜ Shows.Shows (now (run .exit)) (Outcome.outcome (now (trace .entry)) .config) ⌝ }
 {
     machine::clear(&mut *run);
