@@ -65,7 +65,7 @@ impl Site {
 /// What the events and their tests ask of a run.
 impl Run {
     pub(crate) fn processes(&self) -> Range<u8> {
-        // N is at most 16.
+        // N is at most MOST_PROCESSES.
         0..self.sites.len() as u8
     }
 

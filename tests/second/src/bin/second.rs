@@ -74,7 +74,7 @@ fn read(file: Option<OsString>) -> Result<Vec<u8>, String> {
     }
 }
 
-/// The number, then a line of 48 hex digits for each process. The report does not say how many rows it has, so
+/// The number, then a line of hex digits for each process. The report does not say how many rows it has, so
 /// N is asked of a replay.
 fn report(bytes: &[u8]) -> String {
     let mut room = [0; sheet::LEAST_ROOM];

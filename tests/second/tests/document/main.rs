@@ -3,6 +3,7 @@
 mod events;
 mod examples;
 mod helpers;
+mod limits;
 mod records;
 mod sheets;
 mod slips;

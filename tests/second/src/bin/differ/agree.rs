@@ -6,32 +6,40 @@ use crate::nights::{self, Case};
 use crate::proved::Proved;
 use crate::share::{share, Failure};
 use crate::shrink::shrink;
+use second::machine::{LAST_ROUND, MOST_PROCESSES, REFUSED_LEAD};
 use second::run::Run;
+use second::sheet::{LEAST_ROOM, TOO_LITTLE_ROOM};
 use std::path::Path;
 use std::time::{Duration, Instant};
 
 /// The seed of the traces that are the same in every run.
 const FIXED: u64 = 1;
 
+/// How many numbers there are: from 0 to the greatest, which only the C call gives.
+const NUMBERS: usize = TOO_LITTLE_ROOM as usize + 1;
+
+/// From 0 to the refused lead: what a lead can be, and for how many rounds messages can wait at one process.
+const LEADS: usize = REFUSED_LEAD as usize + 1;
+
 /// What the traces of a run were, so that it can be seen what they try.
 #[derive(Default)]
 struct Seen {
-    calls: [u64; 15],
-    sheets: [u64; 15],
+    calls: [u64; NUMBERS],
+    sheets: [u64; NUMBERS],
     /// by the greatest lead of one process over another, at the end of the trace
-    leads: [u64; 9],
+    leads: [u64; LEADS],
     /// by the most rounds for which messages are in transit to one process, at the end of the trace
-    windows: [u64; 9],
+    windows: [u64; LEADS],
     /// by the last round that a process comes to
     rounds: [u64; ROUNDS.len()],
-    sizes: [u64; 17],
+    sizes: [u64; MOST_PROCESSES + 1],
     decisions: u64,
     late: u64,
     accepted: u64,
 }
 
 /// The last round of a trace counts with the first of these that it does not pass.
-const ROUNDS: [u32; 8] = [1, 2, 5, 10, 30, 100, 300, 65_535];
+const ROUNDS: [u32; 8] = [1, 2, 5, 10, 30, 100, 300, LAST_ROUND];
 
 struct Found {
     agreed: Agreed,
@@ -55,23 +63,23 @@ impl Seen {
     }
 
     fn print(&self) {
-        println!("  number         {}", columns(&(0..15).collect::<Vec<u64>>()));
+        println!("  number         {}", columns(&(0..NUMBERS as u64).collect::<Vec<u64>>()));
         println!("  by the C call  {}", columns(&self.calls));
         println!("  by the sheet   {}", columns(&self.sheets));
-        println!("  traces by their greatest lead, 0 to 8:       {}", columns(&self.leads));
+        println!("  traces by their greatest lead, 0 to {REFUSED_LEAD}:       {}", columns(&self.leads));
         println!("  traces by the rounds waiting at one process: {}", columns(&self.windows));
         println!("  traces by their last round, up to            {}", columns(&ROUNDS.map(u64::from)));
         println!("                                               {}", columns(&self.rounds));
-        println!("  traces by N, 1 to 16:  {}", columns(&self.sizes[1..]));
+        println!("  traces by N, 1 to {MOST_PROCESSES}:  {}", columns(&self.sizes[1..]));
         println!("  {} events accepted; {} sends came late; {} processes have decided", self.accepted, self.late, self.decisions);
     }
 
     /// What every run of many traces must have tried.
     fn lacks(&self) -> Option<String> {
         let never = |what: &str, counts: &[u64]| counts.iter().position(|count| *count == 0).map(|at| format!("no trace has {what} {at}"));
-        // the sheet has no number 14
+        // the sheet has no report, and so not the last number
         never("from the C call the number", &self.calls)
-            .or(never("in the sheet the number", &self.sheets[..14]))
+            .or(never("in the sheet the number", &self.sheets[..NUMBERS - 1]))
             .or(never("the greatest lead", &self.leads))
             .or(never("the waiting rounds", &self.windows))
             .or(never("a last round of the kind", &self.rounds))
@@ -134,7 +142,9 @@ pub fn agree(fixed: u64, fresh: u64, seed: u64, seconds: u64, out: &Path) -> boo
 pub fn agree_on(file: &str) -> bool {
     let mut proved = Proved::new();
     let agreed = std::fs::read(file).map_err(|error| error.to_string()).and_then(|trace| {
-        [0, 383, 384, 385, 1000].into_iter().try_for_each(|room| both(&mut proved, &Case { trace: trace.clone(), room }).map(drop))
+        [0, LEAST_ROOM - 1, LEAST_ROOM, LEAST_ROOM + 1, 1000]
+            .into_iter()
+            .try_for_each(|room| both(&mut proved, &Case { trace: trace.clone(), room }).map(drop))
     });
     match &agreed {
         Ok(()) => println!("{file}: no difference"),

@@ -5,7 +5,8 @@ use crate::lockstep;
 use crate::nights::Case;
 use crate::records::{opening, record, Night};
 use crate::share::share;
-use second::machine::Event;
+use second::machine::{Event, LAST_ROUND, MOST_EVENTS, MOST_PROCESSES, REFUSED_LEAD};
+use second::sheet::LEAST_ROOM;
 
 /// A case with its name and the number that it must come to.
 struct Limit {
@@ -15,7 +16,7 @@ struct Limit {
 }
 
 fn limit(name: impl Into<String>, trace: Vec<u8>, number: u8) -> Limit {
-    Limit { name: name.into(), case: Case { trace, room: 384 }, number }
+    Limit { name: name.into(), case: Case { trace, room: LEAST_ROOM }, number }
 }
 
 /// So many processes, whose values are their numbers.
@@ -44,13 +45,13 @@ fn alone_ahead(rounds: usize) -> Vec<Event> {
 
 fn last_round() -> Vec<Limit> {
     let hears = |heard: usize| lockstep::round(1, |_| vec![0; heard]);
-    let almost = |heard: usize| hears(heard).repeat(65_534);
+    let almost = |heard: usize| hears(heard).repeat(LAST_ROUND as usize - 1);
     vec![
-        limit("alone, at round 65,535", night(1, almost(0)), 0),
-        limit("alone, all is done at round 65,535 but the step", night(1, with(almost(0), &[BROADCAST])), 0),
-        limit("alone, a step at round 65,535", night(1, with(almost(0), &[BROADCAST, STEP])), 7),
-        limit("alone, a step at round 65,535 before sending", night(1, with(almost(0), &[STEP])), 6),
-        limit("alone and hearing itself, a step at round 65,535", night(1, with(almost(1), &hears(1))), 7),
+        limit("alone, at the last round", night(1, almost(0)), 0),
+        limit("alone, all is done at the last round but the step", night(1, with(almost(0), &[BROADCAST])), 0),
+        limit("alone, a step at the last round", night(1, with(almost(0), &[BROADCAST, STEP])), 7),
+        limit("alone, a step at the last round before sending", night(1, with(almost(0), &[STEP])), 6),
+        limit("alone and hearing itself, a step at the last round", night(1, with(almost(1), &hears(1))), 7),
     ]
 }
 
@@ -64,47 +65,55 @@ fn of_three(events: usize) -> Vec<Event> {
     round.into_iter().flat_map(single).cycle().take(events).collect()
 }
 
-/// Sixteen processes, 272 events a round: 3,676 rounds, and broadcasts up to exactly a million events.
-fn of_sixteen() -> Vec<Event> {
-    let broadcasts: Vec<Event> = (0..8).map(|process| Event::Broadcast { process }).collect();
-    with(lockstep::round(16, |_| Vec::new()).repeat(3_676), &broadcasts)
+/// A night of exactly the most events, by the most processes, which hear nobody: whole rounds, and then the broadcasts of the processes below the one
+/// that is given too.
+fn of_most() -> (Vec<Event>, u8) {
+    let round = lockstep::round(MOST_PROCESSES, |_| Vec::new());
+    let (in_a_round, in_all) = (MOST_PROCESSES * (MOST_PROCESSES + 1), MOST_EVENTS as usize);
+    let next = (in_all % in_a_round / MOST_PROCESSES) as u8;
+    let broadcasts: Vec<Event> = (0..next).map(|process| Event::Broadcast { process }).collect();
+    (with(round.repeat(in_all / in_a_round), &broadcasts), next)
 }
 
 fn last_event() -> Vec<Limit> {
-    // three processes have 21 events a round; after 999,999 all are at the beginning of a round
-    let (all_but_one, receive) = (of_three(999_999), Event::Receive { receiver: 0, sender: 0 });
+    // three processes have 21 events a round; one event before the last all are at the beginning of a round
+    let (all_but_one, receive) = (of_three(MOST_EVENTS as usize - 1), Event::Receive { receiver: 0, sender: 0 });
     let full = with(all_but_one.clone(), &[SEND]);
     let nobody = Event::Step { process: 3 };
+    let (of_most, next) = of_most();
+    let one_more = with(of_most.clone(), &[Event::Broadcast { process: next }]);
     vec![
-        limit("999,999 events", night(3, all_but_one.clone()), 0),
-        limit("a broadcast that would pass a million", night(3, with(all_but_one.clone(), &[BROADCAST])), 8),
-        limit("a broadcast that would pass a million, of nobody", night(3, with(all_but_one, &[Event::Broadcast { process: 3 }])), 2),
-        limit("a million events", night(3, full.clone()), 0),
-        limit("a million events and a send that was sent", night(3, with(full.clone(), &[SEND])), 8),
-        limit("a million events and a receive", night(3, with(full.clone(), &[receive])), 8),
-        limit("a million events and a step", night(3, with(full.clone(), &[STEP])), 8),
-        limit("a million events and a step of nobody", night(3, with(full, &[nobody])), 2),
-        limit("a million events of sixteen", night(16, of_sixteen()), 0),
-        limit("a million events of sixteen and a broadcast", night(16, with(of_sixteen(), &[Event::Broadcast { process: 8 }])), 8),
+        limit("one event less than the most", night(3, all_but_one.clone()), 0),
+        limit("a broadcast that would pass the most events", night(3, with(all_but_one.clone(), &[BROADCAST])), 8),
+        limit("a broadcast that would pass the most events, of nobody", night(3, with(all_but_one, &[Event::Broadcast { process: 3 }])), 2),
+        limit("the most events", night(3, full.clone()), 0),
+        limit("the most events and a send that was sent", night(3, with(full.clone(), &[SEND])), 8),
+        limit("the most events and a receive", night(3, with(full.clone(), &[receive])), 8),
+        limit("the most events and a step", night(3, with(full.clone(), &[STEP])), 8),
+        limit("the most events and a step of nobody", night(3, with(full, &[nobody])), 2),
+        limit("the most events of the most processes", night(MOST_PROCESSES, of_most), 0),
+        limit("the most events of the most processes and a broadcast", night(MOST_PROCESSES, one_more), 8),
     ]
 }
 
 fn leads() -> Vec<Limit> {
     let to_last = |size: usize| Event::Send { from: 0, to: size as u8 - 1 };
+    let (longest, too_long) = (alone_ahead(REFUSED_LEAD as usize - 1), alone_ahead(REFUSED_LEAD as usize));
+    let too_far = |events: &[Event]| with(too_long.clone(), events);
     let mut limits = Vec::new();
-    for size in [2, 3, 16] {
-        limits.push(limit(format!("a lead of 7 among {size}"), night(size, with(alone_ahead(7), &[to_last(size)])), 0));
-        limits.push(limit(format!("a lead of 8 among {size}"), night(size, with(alone_ahead(8), &[to_last(size)])), 4));
-        limits.push(limit(format!("a broadcast at a lead of 8 among {size}"), night(size, with(alone_ahead(8), &[BROADCAST])), 4));
+    for size in [2, 3, MOST_PROCESSES] {
+        limits.push(limit(format!("the longest lead among {size}"), night(size, with(longest.clone(), &[to_last(size)])), 0));
+        limits.push(limit(format!("the refused lead among {size}"), night(size, too_far(&[to_last(size)])), 4));
+        limits.push(limit(format!("a broadcast at the refused lead among {size}"), night(size, too_far(&[BROADCAST])), 4));
         let own = Event::Send { from: 0, to: 0 };
-        limits.push(limit(format!("to itself at a lead of 8 among {size}"), night(size, with(alone_ahead(8), &[own])), 0));
-        limits.push(limit(format!("a broadcast after that among {size}"), night(size, with(alone_ahead(8), &[own, BROADCAST])), 3));
+        limits.push(limit(format!("to itself at the refused lead among {size}"), night(size, too_far(&[own])), 0));
+        limits.push(limit(format!("a broadcast after that among {size}"), night(size, too_far(&[own, BROADCAST])), 3));
         let behind: Vec<Event> = (0..size as u8).map(|to| Event::Send { from: 1, to }).collect();
-        limits.push(limit(format!("late by 8 among {size}"), night(size, with(alone_ahead(8), &behind)), 0));
+        limits.push(limit(format!("late by the refused lead among {size}"), night(size, too_far(&behind)), 0));
     }
-    // all eight rounds of a window, waiting at process 1, which then takes them one after the other
-    let mut window = with(alone_ahead(7), &[BROADCAST]);
-    for _ in 0..8 {
+    // all rounds of a window, waiting at process 1, which then takes them one after the other
+    let mut window = with(longest, &[BROADCAST]);
+    for _ in 0..REFUSED_LEAD {
         window.extend([Event::Broadcast { process: 1 }, Event::Receive { receiver: 1, sender: 0 }, Event::Step { process: 1 }]);
     }
     limits.push(limit("a full window, taken", night(2, window.clone()), 0));
@@ -115,12 +124,12 @@ fn leads() -> Vec<Limit> {
 fn sizes() -> Vec<Limit> {
     let mut limits = Vec::new();
     for size in 0..=255usize {
-        let (whole, number) = (night(size, vec![]), if (1..=16).contains(&size) { 0 } else { 1 });
+        let (whole, number) = (night(size, vec![]), if (1..=MOST_PROCESSES).contains(&size) { 0 } else { 1 });
         let last = opening(&plain(size)).len() - 1;
         limits.push(limit(format!("an opening of {size}, without its last byte"), whole[..last].to_vec(), 9));
         limits.push(limit(format!("an opening of {size}"), whole, number));
     }
-    for size in 1..=16u8 {
+    for size in 1..=MOST_PROCESSES as u8 {
         let (last, none) = (size - 1, size);
         let both_ways =
             |p: u8, q: u8| [Event::Send { from: p, to: q }, Event::Send { from: q, to: p }, Event::Receive { receiver: p, sender: q }];
@@ -171,10 +180,11 @@ fn cuts() -> Vec<Limit> {
 
 /// The room of a report, byte by byte around what it must be.
 fn rooms() -> Vec<Limit> {
-    let trace = night(16, vec![BROADCAST]);
+    let trace = night(MOST_PROCESSES, vec![BROADCAST]);
     let at =
         |room: usize, number: u8| Limit { name: format!("a report of {room} bytes"), case: Case { trace: trace.clone(), room }, number };
-    (350..384).map(|room| at(room, 14)).chain((384..420).map(|room| at(room, 0))).chain([at(0, 14), at(1 << 20, 0)]).collect()
+    let (too_little, enough) = (LEAST_ROOM - 34..LEAST_ROOM, LEAST_ROOM..LEAST_ROOM + 36);
+    too_little.map(|room| at(room, 14)).chain(enough.map(|room| at(room, 0))).chain([at(0, 14), at(1 << 20, 0)]).collect()
 }
 
 /// Whether each limit comes to its number in both replays.

@@ -4,8 +4,9 @@
 use crate::lockstep;
 use crate::random::Random;
 use crate::records::{event, opening, record, Night, END};
-use second::machine::Event;
+use second::machine::{Event, LAST_ROUND, MOST_EVENTS, MOST_PROCESSES};
 use second::run::Run;
+use second::sheet::{LEAST_ROOM, ROW};
 
 /// A trace, and the room that the report has.
 #[derive(Clone)]
@@ -27,8 +28,9 @@ const LONG: u64 = 4000;
 pub fn made(seed: u64, number: u64) -> Made {
     let random = &mut Random::new(seed, number);
     match number % LONG {
-        1000 => return Made { case: long(random, 1, 65_600), late: 0 },
-        3000 => return Made { case: long(random, 4, 50_100), late: 0 },
+        1000 => return Made { case: long(random, 1, LAST_ROUND as usize + 65), late: 0 },
+        // four processes have 20 events a round at least
+        3000 => return Made { case: long(random, 4, MOST_EVENTS as usize / 20 + 100), late: 0 },
         _ => {}
     }
     let (night, late) = night(random);
@@ -48,7 +50,7 @@ pub fn made(seed: u64, number: u64) -> Made {
 /// A night in lock step of so many rounds, which are more than there may be.
 fn long(random: &mut Random, size: usize, rounds: usize) -> Case {
     let night = Night::ended(values(random, size), lockstep::rounds(random, size, rounds));
-    Case { trace: night.bytes(), room: 384 }
+    Case { trace: night.bytes(), room: LEAST_ROOM }
 }
 
 /// A night with an accepted opening, accepted events, and any tail; and how many of the sends were late.
@@ -57,11 +59,11 @@ pub fn night(random: &mut Random) -> (Night, u64) {
         0 => 1,
         1 => 2,
         2 | 3 => 3,
-        4 => 16,
-        _ => random.between(1, 16),
+        4 => MOST_PROCESSES,
+        _ => random.between(1, MOST_PROCESSES),
     };
     let values = values(random, size);
-    let mut run = Run::open(&values).expect("one to sixteen processes are allowed");
+    let mut run = Run::open(&values).expect("so many processes are allowed");
     let (mut events, mut late) = (Vec::new(), 0);
     let length = match random.below(40) {
         0 => random.between(500, 1500),
@@ -233,7 +235,7 @@ fn badly_opened(random: &mut Random, night: &Night) -> Vec<u8> {
     match random.below(6) {
         // a wrong N, with the length that goes with it or without
         0 => {
-            let size = random.pick(&[0, 17, 17, 18, 255]);
+            let size = random.pick(&[0, MOST_PROCESSES + 1, MOST_PROCESSES + 1, MOST_PROCESSES + 2, 255]);
             let mut bytes = opening(&values(random, size));
             bytes.extend(&whole[first..]);
             bytes
@@ -285,11 +287,11 @@ fn damage(random: &mut Random, bytes: &mut Vec<u8>) {
 /// The room for a report: mostly enough, and often at an edge.
 fn room(random: &mut Random, size: usize) -> usize {
     match random.below(20) {
-        0 => 383,
-        1 => 385,
-        2 => random.pick(&[0, 1, 24 * size - 1, 24 * size]),
-        3 => random.between(376, 392),
-        4 | 5 => random.between(384, 1500),
-        _ => 384,
+        0 => LEAST_ROOM - 1,
+        1 => LEAST_ROOM + 1,
+        2 => random.pick(&[0, 1, ROW * size - 1, ROW * size]),
+        3 => random.between(LEAST_ROOM - 8, LEAST_ROOM + 8),
+        4 | 5 => random.between(LEAST_ROOM, 1500),
+        _ => LEAST_ROOM,
     }
 }

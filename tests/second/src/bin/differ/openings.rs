@@ -7,6 +7,7 @@ use crate::proved::Proved;
 use crate::random::Random;
 use crate::records::Night;
 use crate::share::share;
+use second::sheet::LEAST_ROOM;
 
 const SEED: u64 = 3;
 const NIGHTS: u64 = 700;
@@ -47,7 +48,7 @@ fn without_votes(sheet: &str) -> Vec<&str> {
 
 /// Both nights through the C call and the program; the sheets, if all that must not depend on values is the same.
 fn blind(proved: &mut Proved, one: &Night, other: &Night) -> Result<(String, String), String> {
-    let held = before(384);
+    let held = before(LEAST_ROOM);
     if proved.call(&one.bytes(), &held)? != proved.call(&other.bytes(), &held)? {
         return Err("the number or the report is another under other opening values".to_string());
     }

@@ -7,6 +7,7 @@ use crate::proved::{command, words};
 use crate::random::Random;
 use crate::records::Night;
 use crate::share::share;
+use second::machine::MOST_PROCESSES;
 use second::{sheet, trace};
 use std::io::{self, PipeReader, PipeWriter, Read, Write};
 use std::os::fd::AsRawFd;
@@ -62,7 +63,7 @@ fn cut<'a>(random: &mut Random, mut bytes: &'a [u8], most: usize) -> Vec<&'a [u8
 fn a_trace(random: &mut Random, case: u64) -> Vec<u8> {
     match case {
         0 | 1 => {
-            let size = random.between(2, 16);
+            let size = random.between(2, MOST_PROCESSES);
             Night::ended(nights::values(random, size), lockstep::rounds(random, size, 30_000 / size)).bytes()
         }
         _ => nights::made(SEED, case).case.trace,

@@ -2,6 +2,8 @@
 
 use crate::nights::Case;
 use crate::records::opening;
+use second::machine::MOST_PROCESSES;
+use second::sheet::LEAST_ROOM;
 use std::time::{Duration, Instant};
 
 /// How long it may take.
@@ -74,7 +76,7 @@ impl Shrinking<'_> {
     /// Tries every way to make the case smaller; whether that did.
     fn all_ways(&mut self) -> Option<bool> {
         let before = self.measure();
-        let plain = Case { room: 384, ..self.case.clone() };
+        let plain = Case { room: LEAST_ROOM, ..self.case.clone() };
         self.take(plain)?;
         self.fewer(chunks)?;
         self.fewer_processes()?;
@@ -161,7 +163,7 @@ impl Shrinking<'_> {
 
     fn smaller_values(&mut self) -> Option<()> {
         for small in 0..3 {
-            for at in 0..16 {
+            for at in 0..MOST_PROCESSES {
                 let Some((mut values, rest)) = opened(&self.case.trace) else { return Some(()) };
                 if values.get(at).is_some_and(|value| *value > small) {
                     values[at] = small;
