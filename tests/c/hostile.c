@@ -23,10 +23,10 @@ struct night {
     uint8_t trace[1 << 15];
     size_t size;
     unsigned n;
-    struct row rows[16];
+    struct row rows[MOST_PROCESSES];
 };
 
-static struct night two, sixteen, of_thread[THREADS];
+static struct night two, most, of_thread[THREADS];
 
 static void keep(struct night *night, unsigned n)
 {
@@ -151,38 +151,38 @@ static void long_random(void)
         x = x * 1664525 + 1013904223;
         at(trace)[i] = (uint8_t)(x >> 24);
     }
-    opening(16, 100);
+    opening(MOST_PROCESSES, 100);
     memcpy(at(trace), written, length);
-    call(trace, report, TONGSPARKLE_UNKNOWN_TAG, 16, "10 MB of random bytes behind an opening");
-    for (unsigned p = 0; p < 16; p++) {
+    call(trace, report, TONGSPARKLE_UNKNOWN_TAG, MOST_PROCESSES, "10 MB of random bytes behind an opening");
+    for (unsigned p = 0; p < MOST_PROCESSES; p++) {
         struct row row = {{1, 0, 0, 0, 0, 1u << p}};
         check(rows_are(at(report) + TONGSPARKLE_ROW * p, 1, &row), "a process to which nothing has happened");
     }
     free(trace.start), free(report.start);
 }
 
-/* Sixteen processes that send to all, hear from all and step, over and over: a million events are accepted, and the next is not. */
+/* The most processes, which send to all, hear from all and step, over and over: the most events are accepted, and the next is not. */
 static void long_events(void)
 {
     struct block trace = block(0, LONG), report = block(0, TONGSPARKLE_ROOM);
-    opening(16, 100);
+    opening(MOST_PROCESSES, 100);
     size_t filled = length;
     memcpy(at(trace), written, filled);
     length = 0;
-    for (unsigned p = 0; p < 16; p++)
-        for (unsigned q = 0; q < 16; q++)
+    for (unsigned p = 0; p < MOST_PROCESSES; p++)
+        for (unsigned q = 0; q < MOST_PROCESSES; q++)
             send(p, q);
-    for (unsigned p = 0; p < 16; p++)
-        for (unsigned q = 0; q < 16; q++)
+    for (unsigned p = 0; p < MOST_PROCESSES; p++)
+        for (unsigned q = 0; q < MOST_PROCESSES; q++)
             receive(p, q);
-    for (unsigned p = 0; p < 16; p++)
+    for (unsigned p = 0; p < MOST_PROCESSES; p++)
         step(p);
     for (; filled + length <= LONG; filled += length)
         memcpy(at(trace) + filled, written, length);
-    call(trace, report, TONGSPARKLE_TOO_MANY_EVENTS, 16, "10 MB of events");
-    for (unsigned p = 0; p < 16; p++) {
-        check(events(at(report), p) == 1000000, "a million events were accepted");
-        check(number(at(report) + TONGSPARKLE_ROW * p + TONGSPARKLE_REACH) == 0xffff, "all were heard");
+    call(trace, report, TONGSPARKLE_TOO_MANY_EVENTS, MOST_PROCESSES, "10 MB of events");
+    for (unsigned p = 0; p < MOST_PROCESSES; p++) {
+        check(events(at(report), p) == MOST_EVENTS, "the most events were accepted");
+        check(number(at(report) + TONGSPARKLE_ROW * p + TONGSPARKLE_REACH) == (1u << MOST_PROCESSES) - 1, "all were heard");
     }
     free(trace.start), free(report.start);
 }
@@ -258,11 +258,11 @@ static void threads(void)
     pthread_barrier_destroy(&all_are_there);
 }
 
-/* ---- a wrong call. The trace lacks the last byte of its step; the report lacks the last byte of its sixteenth row */
+/* ---- a wrong call. The trace lacks the last byte of its step; the report lacks the last byte of its last row */
 static int wrong_call(const char *which)
 {
     int of_trace = strcmp(which, "trace") == 0;
-    struct block trace = of_trace ? exactly(two.trace, 40) : exactly(sixteen.trace, sixteen.size);
+    struct block trace = of_trace ? exactly(two.trace, 40) : exactly(most.trace, most.size);
     struct block report = block(0, of_trace ? TONGSPARKLE_ROOM : TONGSPARKLE_ROOM - 1);
     tongsparkle_replay(at(trace), of_trace ? 41 : trace.size, at(report), TONGSPARKLE_ROOM);
     printf("a wrong call was not seen: %s\n", which);
@@ -273,16 +273,16 @@ static int wrong_call(const char *which)
 int main(int words, char **word)
 {
     night_of_two(&two);
-    night_in_step(&sixteen, 16, 1);
+    night_in_step(&most, MOST_PROCESSES, 1);
     for (unsigned k = 0; k < THREADS; k++)
-        night_in_step(&of_thread[k], 4 * (k + 1), 200 / (k + 1));
+        night_in_step(&of_thread[k], MOST_PROCESSES / THREADS * (k + 1), 200 / (k + 1));
     if (words == 2)
         return wrong_call(word[1]);
     empty_traces();
     empty_reports();
     alignments();
     long_report(&two);
-    long_report(&sixteen);
+    long_report(&most);
     long_zeros();
     long_random();
     long_events();

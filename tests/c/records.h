@@ -27,6 +27,9 @@ static int told(void)
     return failed == 0 && passed > 0 ? 0 : 1;
 }
 
+/* The limits of document 01. The header's room and row say how many processes there may be; for the others it has no name. */
+enum { MOST_PROCESSES = TONGSPARKLE_ROOM / TONGSPARKLE_ROW, WINDOW = 8, LAST_ROUND = 65535, MOST_EVENTS = 1000000 };
+
 /* ---- a trace, record by record */
 enum { LARGEST = 1 << 20 };
 

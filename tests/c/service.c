@@ -68,7 +68,7 @@ static void example_rows(void)
     row(1, 1, 6, 0, 0, 0, 2, "document 01's w line of process 1");
 }
 
-/* The names of the header are document 01's numbers. */
+/* The names of the header are document 01's numbers, and so is what the tests know by name. */
 static void names(void)
 {
     const int numbers[] = {
@@ -79,6 +79,8 @@ static void names(void)
     };
     for (int k = 0; k <= 14; k++)
         check(numbers[k] == k, "a name of the header has its number");
+    check(TONGSPARKLE_ROOM == 384 && TONGSPARKLE_ROW == 24, "the room of a report, and of a row");
+    check(MOST_PROCESSES == 16 && WINDOW == 8 && LAST_ROUND == 65535 && MOST_EVENTS == 1000000, "the limits of a run");
 }
 
 int main(void)
@@ -93,7 +95,7 @@ int main(void)
     example_rows();
 
     /* 14 comes first, and leaves every byte */
-    call(TONGSPARKLE_ROOM - 1, TONGSPARKLE_NO_ROOM, 0, "room for two rows, but not for sixteen");
+    call(TONGSPARKLE_ROOM - 1, TONGSPARKLE_NO_ROOM, 0, "room for two rows, but not for all");
     call(0, TONGSPARKLE_NO_ROOM, 0, "no room at all");
     length = 0;
     call(10, TONGSPARKLE_NO_ROOM, 0, "too little room is found before the empty trace");
@@ -102,8 +104,8 @@ int main(void)
     call(TONGSPARKLE_ROOM, TONGSPARKLE_ENDS_INSIDE, 0, "an empty trace");
     opening(0, 0), end();
     call(TONGSPARKLE_ROOM, TONGSPARKLE_BAD_SIZE, 0, "no process");
-    opening(17, 0), end();
-    call(TONGSPARKLE_ROOM, TONGSPARKLE_BAD_SIZE, 0, "seventeen processes");
+    opening(MOST_PROCESSES + 1, 0), end();
+    call(TONGSPARKLE_ROOM, TONGSPARKLE_BAD_SIZE, 0, "one process too many");
     opening(255, 0), end();
     call(TONGSPARKLE_ROOM, TONGSPARKLE_BAD_SIZE, 0, "as many processes as a byte can say");
     length = 0, send(0, 0);
@@ -147,38 +149,38 @@ int main(void)
     call(TONGSPARKLE_ROOM, TONGSPARKLE_BYTES_BEHIND, 2, "a byte behind the end record");
     example_rows();
 
-    /* 4: process 0 is at round 9, process 1 at 1 */
+    /* 4: process 0 is a whole window ahead of process 1, which is at round 1; a round of its own is two sends and a step */
     opening(2, 7);
-    for (int r = 1; r <= 8; r++)
+    for (int r = 1; r <= WINDOW; r++)
         broadcast(0), step(0);
     send(0, 1), end();
-    call(TONGSPARKLE_ROOM, TONGSPARKLE_TOO_FAR_AHEAD, 2, "a lead of 8");
-    row(0, 9, 16, 8, 0, 0, 1, "process 0 at round 9");
-    row(1, 1, 24, 0, 0, 0, 2, "process 1 has not sent");
+    call(TONGSPARKLE_ROOM, TONGSPARKLE_TOO_FAR_AHEAD, 2, "a lead of a whole window");
+    row(0, 1 + WINDOW, 2 * WINDOW, WINDOW, 0, 0, 1, "process 0 a window ahead");
+    row(1, 1, 3 * WINDOW, 0, 0, 0, 2, "process 1 has not sent");
 
-    /* 7: alone, up to round 65,535 */
+    /* 7: alone, up to the last round */
     opening(1, 7);
-    for (unsigned r = 1; r < 65535; r++)
+    for (unsigned r = 1; r < LAST_ROUND; r++)
         broadcast(0), step(0);
     broadcast(0), step(0), end();
     call(TONGSPARKLE_ROOM, TONGSPARKLE_LAST_ROUND, 1, "a step from the last round");
-    row(0, 65535, 65535, 65534, 0, 0, 1, "alone at round 65,535");
+    row(0, LAST_ROUND, LAST_ROUND, LAST_ROUND - 1, 0, 0, 1, "alone at the last round");
 
-    /* 8: sixteen processes; 272 events a round */
-    opening(16, 100);
-    for (int r = 1; r <= 3677; r++) {
-        for (unsigned p = 0; p < 16; p++)
+    /* 8: the most processes; in a round each of them sends to all and steps. One round more than there can be */
+    opening(MOST_PROCESSES, 100);
+    for (int r = 0; r <= MOST_EVENTS / (MOST_PROCESSES * (MOST_PROCESSES + 1)); r++) {
+        for (unsigned p = 0; p < MOST_PROCESSES; p++)
             broadcast(p);
-        for (unsigned p = 0; p < 16; p++)
+        for (unsigned p = 0; p < MOST_PROCESSES; p++)
             step(p);
     }
     end();
-    call(TONGSPARKLE_ROOM, TONGSPARKLE_TOO_MANY_EVENTS, 16, "more than a million events");
-    for (unsigned p = 0; p < 16; p++) {
+    call(TONGSPARKLE_ROOM, TONGSPARKLE_TOO_MANY_EVENTS, MOST_PROCESSES, "more events than there may be");
+    for (unsigned p = 0; p < MOST_PROCESSES; p++) {
         uint32_t sum = field(p, TONGSPARKLE_SENDING) + field(p, TONGSPARKLE_COLLECTING) + field(p, TONGSPARKLE_PENDING) + field(p, TONGSPARKLE_IDLE);
         check(sum == field(0, TONGSPARKLE_SENDING) + field(0, TONGSPARKLE_COLLECTING) + field(0, TONGSPARKLE_PENDING) + field(0, TONGSPARKLE_IDLE),
               "every process has as many events");
-        check(sum <= 1000000 && sum + 16 > 1000000, "as many as there may be, but for those of one broadcast");
+        check(sum <= MOST_EVENTS && sum + MOST_PROCESSES > MOST_EVENTS, "as many as there may be, but for those of one broadcast");
         check(field(p, TONGSPARKLE_REACH) == 1u << p, "nobody was heard");
     }
 
