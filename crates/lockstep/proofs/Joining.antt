@@ -7,6 +7,7 @@ use mathlib.Core.List.{List, [], _∷_, _++_}
 use Rattle.rounds.specs.declared.Event.{Event}
 use Rattle.rounds.specs.declared.Event.the-variants.{Send, Receive, Step}
 use Rattle.rounds.specs.declared.Verdict.the-variants.{Accepted}
+use Rattle.rounds.specs.Limits.{mostProcesses}
 use Rattle.rounds.specs.Config.{Config}
 use Rattle.rounds.specs.Verdicts.{refuse, openVerdict}
 use Rattle.rounds.specs.Events.{apply}
@@ -43,9 +44,9 @@ pub received-next : {m₀ m m′ : Mem} (k p : ℕ) → Runs m₀ m (receivesBel
 unfolding receivesBelow
 received-next k p f g = rw (add-one k) (both (receivesBelow k p) (Receive p k ∷ []) f (one (Receive p k) g))
 
-pub all-sent-next : {m₀ m m′ : Mem} (k : ℕ) → Runs m₀ m (allSend k) → Runs m m′ (sends 16 k) → Runs m₀ m′ (allSend (k + 1))
+pub all-sent-next : {m₀ m m′ : Mem} (k : ℕ) → Runs m₀ m (allSend k) → Runs m m′ (sends mostProcesses k) → Runs m₀ m′ (allSend (k + 1))
 unfolding allSend
-all-sent-next k f g = rw (add-one k) (both (allSend k) (sends 16 k) f g)
+all-sent-next k f g = rw (add-one k) (both (allSend k) (sends mostProcesses k) f g)
 
 pub all-turned-next : {m₀ m m′ : Mem} (k : ℕ) → Runs m₀ m (allTurn k) → Runs m m′ (oneTurn k) → Runs m₀ m′ (allTurn (k + 1))
 unfolding allTurn
@@ -56,16 +57,16 @@ unfolding manyRounds
 rounds-next c k s g = rw (add-one k) (joined c (manyRounds k) oneRound s g)
 
 -- ---- a turn, and a round
-pub turned : {m₀ m m′ : Mem} (p : ℕ) → Runs m₀ m (receivesBelow 16 p) → ((c : Config) → Shows m c → Shows m′ (apply c (Step p)))
+pub turned : {m₀ m m′ : Mem} (p : ℕ) → Runs m₀ m (receivesBelow mostProcesses p) → ((c : Config) → Shows m c → Shows m′ (apply c (Step p)))
     → Runs m₀ m′ (oneTurn p)
 unfolding oneTurn
-turned p f g = both (receivesBelow 16 p) (Step p ∷ []) f (one (Step p) g)
+turned p f g = both (receivesBelow mostProcesses p) (Step p ∷ []) f (one (Step p) g)
 
-pub round-done : {m₀ m m′ : Mem} → Runs m₀ m (allSend 16) → Runs m m′ (allTurn 16) → Runs m₀ m′ oneRound
+pub round-done : {m₀ m m′ : Mem} → Runs m₀ m (allSend mostProcesses) → Runs m m′ (allTurn mostProcesses) → Runs m₀ m′ oneRound
 unfolding oneRound
-round-done f g = both (allSend 16) (allTurn 16) f g
+round-done f g = both (allSend mostProcesses) (allTurn mostProcesses) f g
 
--- ---- sixteen values open a run of sixteen
-pub sixteen-open : openVerdict 16 16 ≡ Accepted
+-- ---- as many values as there can be processes open a run
+pub most-open : openVerdict mostProcesses mostProcesses ≡ Accepted
 unfolding openVerdict refuse
-sixteen-open = refl
+most-open = refl

@@ -1,29 +1,37 @@
-// A hundred runs of sixteen processes in lock step: in each of 1,890 rounds everyone sends to all, hears all and steps. That is 99,792,000 events.
+// A hundred runs of the most processes in lock step: in each of 1,890 rounds everyone sends to all, hears all and steps. That is 99,792,000 events.
 // What is left at the end is known, and 'ok' is written where it is so. bench/ times this beside the same loop in C.
+use machine::MOST_PROCESSES;
 use machine::RUN;
 ghost use Prim.Native.Nat.{ℕ};
 ghost use mathlib.Core.Path.{_≡_};
 ghost use lib.ListN.{length};
+ghost use Rattle.rounds.specs.Limits.{mostProcesses};
 ghost use Rattle.rounds.specs.Config.{Config, opening};
 ghost use Rattle.rounds.specs.Runs as Runs;
 ghost use Rattle.rounds.specs.Runs.{after};
 ghost use Rattle.words.specs.Shows.{Shows, Given};
 ghost use Rattle.lockstep.specs.LockStep.{receivesBelow, oneTurn, allSend, allTurn, oneRound, manyRounds};
 
+// As many processes as there can be.
+const ALL: u8 = MOST_PROCESSES as u8;
+
+// The set of all of them.
+const EVERYONE: u32 = (1 << MOST_PROCESSES) - 1;
+
 // Process p sends to all.
 fn sends(run: &mut [u32; RUN], p: u8)
-    ensures { λ r. ⌜ ((c : Config) → Shows (now (run .entry)) c → Shows (now (run .exit)) (after c (Runs.sends 16 p))) ⌝ }
+    ensures { λ r. ⌜ ((c : Config) → Shows (now (run .entry)) c → Shows (now (run .exit)) (after c (Runs.sends mostProcesses p))) ⌝ }
 {
-    for q in 0..16u8 {
+    for q in 0..ALL {
         machine::send(&mut *run, p, q);
     }
 }
 
 // Process p hears all.
 fn receives(run: &mut [u32; RUN], p: u8)
-    ensures { λ r. ⌜ ((c : Config) → Shows (now (run .entry)) c → Shows (now (run .exit)) (after c (receivesBelow 16 p))) ⌝ }
+    ensures { λ r. ⌜ ((c : Config) → Shows (now (run .entry)) c → Shows (now (run .exit)) (after c (receivesBelow mostProcesses p))) ⌝ }
 {
-    for q in 0..16u8 {
+    for q in 0..ALL {
         machine::receive(&mut *run, p, q);
     }
 }
@@ -37,17 +45,17 @@ fn turn(run: &mut [u32; RUN], p: u8)
 }
 
 fn all_send(run: &mut [u32; RUN])
-    ensures { λ r. ⌜ ((c : Config) → Shows (now (run .entry)) c → Shows (now (run .exit)) (after c (allSend 16))) ⌝ }
+    ensures { λ r. ⌜ ((c : Config) → Shows (now (run .entry)) c → Shows (now (run .exit)) (after c (allSend mostProcesses))) ⌝ }
 {
-    for p in 0..16u8 {
+    for p in 0..ALL {
         sends(&mut *run, p);
     }
 }
 
 fn all_turn(run: &mut [u32; RUN])
-    ensures { λ r. ⌜ ((c : Config) → Shows (now (run .entry)) c → Shows (now (run .exit)) (after c (allTurn 16))) ⌝ }
+    ensures { λ r. ⌜ ((c : Config) → Shows (now (run .entry)) c → Shows (now (run .exit)) (after c (allTurn mostProcesses))) ⌝ }
 {
-    for p in 0..16u8 {
+    for p in 0..ALL {
         turn(&mut *run, p);
     }
 }
@@ -59,11 +67,12 @@ fn round(run: &mut [u32; RUN])
     all_turn(&mut *run);
 }
 
-// A run of sixteen processes with these values, from its opening.
+// A run of the most processes with these values, from its opening.
 fn night(run: &mut [u32; RUN], values: &[u32])
-    ensures { λ r. ⌜ ((v : ℕ → ℕ) → length (now (values .entry)) ≡ 16 → Given 16 (now (values .entry)) v → Shows (now (run .exit)) (after (opening 16 v) (manyRounds 1890))) ⌝ }
+    ensures { λ r. ⌜ ((v : ℕ → ℕ) → length (now (values .entry)) ≡ mostProcesses → Given mostProcesses (now (values .entry)) v
+        → Shows (now (run .exit)) (after (opening mostProcesses v) (manyRounds 1890))) ⌝ }
 {
-    machine::begin(&mut *run, 16, values);
+    machine::begin(&mut *run, MOST_PROCESSES, values);
     for _ in 0..1890u32 {
         round(&mut *run);
     }
@@ -79,7 +88,7 @@ fn main() {
     if machine::events(&run) == 997920 {
         if first.round == 1891 {
             if first.value == 3 {
-                if first.reach == 65535 {
+                if first.reach == EVERYONE {
                     io::write_all(1, b"ok\n");
                 }
             }

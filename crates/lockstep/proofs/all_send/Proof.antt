@@ -1,8 +1,9 @@
--- `all_send` goes over the sixteen processes; at each the memory shows the run of the events so far.
+-- `all_send` goes over all processes; at each the memory shows the run of the events so far.
 -- Assumes nothing.
 use Prim.Native.Nat.{_≤_, _-_}
 use native.Mathlib.Omega.{arith}
 use mathlib.Core.Path.{_≡_}
+use Rattle.rounds.specs.Limits.{mostProcesses}
 use Rattle.rounds.specs.Runs.{after}
 use Rattle.lockstep.specs.LockStep.{allSend}
 use Rattle.lockstep.proofs.Joining.{Runs, all-sent-next}
@@ -11,10 +12,10 @@ use Rattle.lockstep.proofs.all_send.Statement.{statement}
 use Rattle.lockstep.proofs.all_send.Tie as tie
 
 abbrev Inv-loop : tie.InvT-loop
-Inv-loop run₀ p₀ run p = (p ≤ 16) × Runs run₀ run (allSend p)
+Inv-loop run₀ p₀ run p = (p ≤ mostProcesses) × Runs run₀ run (allSend p)
 
 abbrev μ-loop : tie.MeasureT-loop
-μ-loop run₀ p₀ run p = 16 - p
+μ-loop run₀ p₀ run p = mostProcesses - p
 
 loop-holds : tie.Need-loop-holds Inv-loop μ-loop
 unfolding allSend after
@@ -37,7 +38,7 @@ loop-again c =
 returns : tie.Need-returns Inv-loop μ-loop
 returns c =
     let l = c .before .loop in
-    let e : l .p ≡ 16 = omega arith in
+    let e : l .p ≡ mostProcesses = omega arith in
     rw e at (l .inv .1)
 
 pub all-send-spec : {M : Type 1} → statement M

@@ -4,12 +4,13 @@ use Prim.Native.Nat.{ℕ, _≤_, _-_}
 use native.Mathlib.Omega.{arith}
 use mathlib.Core.Path.{_≡_, _∙_, ap}
 use lib.ListN.{length}
+use Rattle.rounds.specs.Limits.{mostProcesses}
 use Rattle.rounds.specs.Config.{opening}
 use Rattle.rounds.specs.Verdicts.{openVerdict}
 use Rattle.rounds.specs.Runs.{after}
 use Rattle.words.specs.Shows.{Shows, Given}
 use Rattle.lockstep.specs.LockStep.{manyRounds}
-use Rattle.lockstep.proofs.Joining.{sixteen-open, rounds-next}
+use Rattle.lockstep.proofs.Joining.{most-open, rounds-next}
 use borrow.Author.Needs.{needs}
 use Rattle.lockstep.proofs.night.Statement.{statement}
 use Rattle.lockstep.proofs.night.Tie as tie
@@ -17,7 +18,7 @@ use Rattle.lockstep.proofs.night.Tie as tie
 abbrev Inv-loop : tie.InvT-loop
 Inv-loop run₀ values counter₀ run counter =
     (counter ≤ 1890)
-    × ((v : ℕ → ℕ) → length values ≡ 16 → Given 16 values v → Shows run (after (opening 16 v) (manyRounds counter)))
+    × ((v : ℕ → ℕ) → length values ≡ mostProcesses → Given mostProcesses values v → Shows run (after (opening mostProcesses v) (manyRounds counter)))
 
 abbrev μ-loop : tie.MeasureT-loop
 μ-loop run₀ values counter₀ run counter = 1890 - counter
@@ -28,7 +29,7 @@ begin-requires c κs = search needs
 loop-holds : tie.Need-loop-holds Inv-loop μ-loop
 unfolding manyRounds after
 loop-holds c =
-    (search needs, λ v e g. c .begin .ensures .1 (c .begin .ensures .0 .0 ∙ ap (openVerdict 16) e ∙ sixteen-open) v g)
+    (search needs, λ v e g. c .begin .ensures .1 (c .begin .ensures .0 .0 ∙ ap (openVerdict mostProcesses) e ∙ most-open) v g)
 
 round-requires : tie.Need-round-requires Inv-loop μ-loop
 round-requires c κs = search needs
@@ -42,7 +43,7 @@ loop-less c = search needs
 loop-again : tie.Need-loop-again Inv-loop μ-loop
 loop-again c =
     let l = c .before .before .before .loop in
-    (search needs, λ v e g. rounds-next (opening 16 v) (l .counter) (l .inv .1 v e g) (c .round .ensures))
+    (search needs, λ v e g. rounds-next (opening mostProcesses v) (l .counter) (l .inv .1 v e g) (c .round .ensures))
 
 returns : tie.Need-returns Inv-loop μ-loop
 returns c =

@@ -1,8 +1,9 @@
--- `sends` goes over the sixteen processes; at each the memory shows the run of the events so far.
+-- `sends` goes over all processes; at each the memory shows the run of the events so far.
 -- Assumes nothing.
 use Prim.Native.Nat.{_≤_, _-_}
 use native.Mathlib.Omega.{arith}
 use mathlib.Core.Path.{_≡_}
+use Rattle.rounds.specs.Limits.{mostProcesses}
 use Rattle.rounds.specs.Runs.{after, sends}
 use Rattle.lockstep.proofs.Joining.{Runs, sent-next}
 use borrow.Author.Needs.{needs}
@@ -10,10 +11,10 @@ use Rattle.lockstep.proofs.sends.Statement.{statement}
 use Rattle.lockstep.proofs.sends.Tie as tie
 
 abbrev Inv-loop : tie.InvT-loop
-Inv-loop run₀ p q₀ run q = (q ≤ 16) × Runs run₀ run (sends q p)
+Inv-loop run₀ p q₀ run q = (q ≤ mostProcesses) × Runs run₀ run (sends q p)
 
 abbrev μ-loop : tie.MeasureT-loop
-μ-loop run₀ p q₀ run q = 16 - q
+μ-loop run₀ p q₀ run q = mostProcesses - q
 
 loop-holds : tie.Need-loop-holds Inv-loop μ-loop
 unfolding sends after
@@ -36,7 +37,7 @@ loop-again c =
 returns : tie.Need-returns Inv-loop μ-loop
 returns c =
     let l = c .before .loop in
-    let e : l .q ≡ 16 = omega arith in
+    let e : l .q ≡ mostProcesses = omega arith in
     rw e at (l .inv .1)
 
 pub sends-spec : {M : Type 1} → statement M
