@@ -1,5 +1,5 @@
 -- Calls of the monitoring service and what they give and leave, each as a test that computes. Assumes nothing.
-use Prim.Native.Nat.{ℕ}
+use Prim.Native.Nat.{ℕ, _-_, _*_}
 use mathlib.Core.Bool.{Bool, _&&_}
 use mathlib.Core.List.{List, [], _∷_, _++_}
 use lib.Dec.{eqb}
@@ -8,7 +8,7 @@ use Rattle.rounds.specs.Examples.{equal}
 use Rattle.records.specs.Stored.{over}
 use Rattle.records.specs.Examples.{input}
 use Rattle.trace.specs.Examples.{comesTo}
-use Rattle.tongsparkle.specs.Report.{word, row, rows, reportOf, numberGiven, reportLeft}
+use Rattle.tongsparkle.specs.Report.{word, row, rows, reportOf, rowBytes, room, numberGiven, reportLeft}
 
 -- the number given, and every byte of the report afterwards. To unfold it is to unfold reading, machine and report
 unfoldable pub gives : List ℕ → List ℕ → ℕ → List ℕ → Bool
@@ -30,16 +30,18 @@ unfoldable pub examples : List Bool
 unfolding gives
 examples =
     -- document 01's trace, with just enough room and with more
-    gives input (fives 384) 0 (inputRows ++ fives 336)
+    gives input (fives room) 0 (inputRows ++ fives (room - 2 * rowBytes))
     ∷ gives input (fives 400) 0 (inputRows ++ fives 352)
     -- a byte less: nothing is written, though two rows would fit
-    ∷ gives input (fives 383) 14 (fives 383)
+    ∷ gives input (fives (room - 1)) 14 (fives (room - 1))
     ∷ gives [] [] 14 []
     -- a refused event leaves the report of the accepted ones
-    ∷ gives (input ++ (0 ∷ [])) (fives 384) 13 (inputRows ++ fives 336)
+    ∷ gives (input ++ (0 ∷ [])) (fives room) 13 (inputRows ++ fives (room - 2 * rowBytes))
     -- without an accepted opening nothing is written
-    ∷ gives [] (fives 384) 9 (fives 384)
-    ∷ gives (1 ∷ 0 ∷ 1 ∷ 0 ∷ []) (fives 384) 1 (fives 384)
+    ∷ gives [] (fives room) 9 (fives room)
+    ∷ gives (1 ∷ 0 ∷ 1 ∷ 0 ∷ []) (fives room) 1 (fives room)
+    -- the room is document 01's
+    ∷ eqb room 384
     -- the most significant byte comes first
     ∷ equal (word 16909060) (1 ∷ 2 ∷ 3 ∷ 4 ∷ [])
     ∷ []
