@@ -1,4 +1,4 @@
-/* The C call on a trace of a million events: sixteen processes in lock step, 1,893 rounds, 999,504 events, a record for each. The trace is read
+/* The C call on a trace of a million events: the most processes in lock step, 1,893 rounds, 999,504 events, a record for each. The trace is read
    twenty times. With -DPEER the call is the one below, on the reader of reader.h: the peer, written as one would write it by hand; else it is
    libtongsparkle.a's. What the report must hold at the end is known, and 'ok' is written where it is so. */
 #include <stdio.h>
@@ -6,7 +6,7 @@
 
 #include "../include/tongsparkle.h"
 
-enum { PROCESSES = 16, ROUNDS = 1893, TIMES = 20 };
+enum { PROCESSES = TONGSPARKLE_ROOM / TONGSPARKLE_ROW, ROUNDS = 1893, TIMES = 20 };
 
 #ifdef PEER
 #include "reader.h"
@@ -23,7 +23,7 @@ uint32_t tongsparkle_replay(const uint8_t *trace, size_t trace_len, uint8_t *rep
 {
     uint32_t run[RUN];
     if (report_len < TONGSPARKLE_ROOM)
-        return 14;
+        return TONGSPARKLE_NO_ROOM;
     memset(run, 0, sizeof run);
     const uint8_t *end = trace + trace_len;
     uint32_t number = records(run, &trace, end, NULL);
@@ -66,7 +66,7 @@ int main(void)
     at[-1] = 1 + 4 * PROCESSES;
     *at++ = PROCESSES;
     for (unsigned p = 0; p < PROCESSES; p++)
-        *at++ = 0, *at++ = 0, *at++ = 0, *at++ = (uint8_t)(7 * p % 16);
+        *at++ = 0, *at++ = 0, *at++ = 0, *at++ = (uint8_t)(7 * p % PROCESSES);
     for (int round = 0; round < ROUNDS; round++) {
         for (unsigned p = 0; p < PROCESSES; p++)
             for (unsigned q = 0; q < PROCESSES; q++)
@@ -83,8 +83,8 @@ int main(void)
         given += tongsparkle_replay(trace, (size_t)(at - trace), report, sizeof report);
     uint32_t sum = 0;
     for (unsigned k = TONGSPARKLE_SENDING; k <= TONGSPARKLE_IDLE; k += 4)
-        sum += number(report + 15 * TONGSPARKLE_ROW + k);
-    if (given == 0 && sum == 999504 && number(report) == ROUNDS + 1 && number(report + TONGSPARKLE_REACH) == 65535)
+        sum += number(report + (PROCESSES - 1) * TONGSPARKLE_ROW + k);
+    if (given == TONGSPARKLE_OK && sum == 999504 && number(report) == ROUNDS + 1 && number(report + TONGSPARKLE_REACH) == (1u << PROCESSES) - 1)
         puts("ok");
     free(trace);
     return 0;

@@ -99,8 +99,8 @@ static void v_line(uint32_t *run, uint32_t p)
     end_line(perhaps(at, s[DECIDED], s[DECISION]));
 }
 
-/* Replays all of standard input and gives its number. What is there of a cut record, fewer than 1,024 bytes, goes to the front, and the next
-   bytes come behind it. */
+/* Replays all of standard input and gives its number. What is there of a cut record, which is far less than INPUT bytes, goes to the front, and the
+   next bytes come behind it. */
 static uint32_t replay(uint32_t *run)
 {
     static uint8_t input[INPUT];
