@@ -7,6 +7,8 @@ import sys
 TOP = pathlib.Path(__file__).resolve().parent.parent.parent
 SHEET = TOP / "bin" / "sheet"
 NIGHTS = TOP / "nights"
+# document 01's limit on N
+MOST_SITES = 16
 FAILED = []
 
 
