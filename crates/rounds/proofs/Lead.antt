@@ -1,4 +1,4 @@
--- The lead of one process over another stays from -8 to 8: its round is at most 8 above the other's, whichever of the two is meant.
+-- The lead of one process over another is never more than the window: its round is at most so far above the other's, whichever of the two is meant.
 -- Assumes nothing.
 use Prim.Native.Nat.{ℕ, _+_, _≤_, _<_}
 use native.Mathlib.Omega.{arith}
@@ -15,7 +15,7 @@ use Rattle.rounds.specs.Allowed.{Sends, Steps}
 use Rattle.rounds.proofs.Updates.{at-two}
 use Rattle.rounds.proofs.Kept.{Kept}
 
--- at most 8 ahead of every process, and less than 8 ahead of those it has sent to this round
+-- at most a window ahead of every process, and less than that ahead of those it has sent to this round
 abbrev Near : ℕ → ℕ → Site → ℕ → Site → Type 0
 Near n x s y t = x < n → y < n → (s .round ≤ t .round + window) × (has (s .sent) y ≡ true → s .round < t .round + window)
 

@@ -51,7 +51,7 @@ events-kept =
       step = λ c d p h k. omega (arith, h .room);
     }
 
--- ---- the window: nothing is in transit for a round before the receiver's, or 8 and more after it
+-- ---- the window: nothing is in transit for a round before the receiver's, or for one that is a window or more after it
 abbrev Shut : ℕ → ℕ → ℕ → Type 0
 Shut round r t = (r < round → t ≡ empty) × (round + window ≤ r → t ≡ empty)
 
@@ -116,7 +116,7 @@ pub open-window : (n : ℕ) → Window (openControl n)
 unfolding openControl
 open-window n x r = (λ h. refl, λ h. refl)
 
--- so what is in transit to x is for its own round or the seven after it
+-- so what is in transit to x is for a round of its window: its own or one after it
 pub in-window : (c : Control) → Window c → (x r y : ℕ) → has (c .transit x r) y ≡ true → (c .site x .round ≤ r) × (r < c .site x .round + window)
 in-window c w x r y t =
     (le-of-suc-le-suc (lt-of-not-le (λ l. empty-none y (rw (w x r .0 l) at t))), lt-of-not-le (λ l. empty-none y (rw (w x r .1 l) at t)))

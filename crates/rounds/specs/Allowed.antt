@@ -15,7 +15,7 @@ pub record Opens (n given : ℕ) : Type 0 where
   pub most : n ≤ mostProcesses
   pub each : given ≡ n
 
--- p has not sent to q this round, and its lead over q is not 8
+-- p has not sent to q this round, and its lead over q is not the whole window
 pub record MaySend (c : Control) (p q : ℕ) : Type 0 where
   pub unsent : has (c .site p .sent) q ≡ false
   pub near : c .site p .round ≡ c .site q .round + window → ⊥

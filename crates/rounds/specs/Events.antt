@@ -16,7 +16,7 @@ use Rattle.rounds.specs.Stages.{tick}
 use Rattle.rounds.specs.Verdicts.{accepted, verdict}
 
 -- ---- a send
--- whether a message of a sender at round r to a receiver at round s is put in transit: the lead is 0 to 7. Below 0 it is late, and discarded
+-- whether a message of a sender at round r to a receiver at round s is put in transit: its lead is within the window. Below 0 it is late: discarded
 unfoldable pub timely : ℕ → ℕ → Bool
 timely r s = leb s r && ltb r (s + window)
 

@@ -47,7 +47,7 @@ outside c p = leb (c .size) p
 unfoldable pub crowded : Control → ℕ → Bool
 crowded c k = ltb mostEvents (c .events + k)
 
--- whether the lead of a sender at round r over a receiver at round s is 8
+-- whether the lead of a sender at round r over a receiver at round s is the whole window
 unfoldable pub ahead : ℕ → ℕ → Bool
 ahead r s = eqb r (s + window)
 
