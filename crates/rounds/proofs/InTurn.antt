@@ -121,10 +121,11 @@ replay-heeded c (e ∷ es) = go (accepted (verdict (c .control) e)) (replay-heed
     go false ih = refl
 
 -- one verdict, or what comes where that accepts
-abbrev thenVerdict : Verdict → Verdict → Verdict
+abbrev pub thenVerdict : Verdict → Verdict → Verdict
 thenVerdict v next = cond (accepted v) next v
 
-replay-append : (c : Config) (es fs : List Event) → replayVerdict c (es ++ fs) ≡ thenVerdict (replayVerdict c es) (replayVerdict (after c es) fs)
+-- events and then others are answered as the first are or, where these are all accepted, as the others after them
+pub replay-append : (c : Config) (es fs : List Event) → replayVerdict c (es ++ fs) ≡ thenVerdict (replayVerdict c es) (replayVerdict (after c es) fs)
 unfolding replayVerdict after ifAccepted
 replay-append c [] fs = sym (ap (λ (b : Bool). cond b (replayVerdict c fs) Accepted) (accepted-is Accepted refl))
 replay-append c (e ∷ es) fs = go (accepted (verdict (c .control) e)) refl (replay-append (apply c e) es fs)
@@ -137,7 +138,7 @@ replay-append c (e ∷ es) fs = go (accepted (verdict (c .control) e)) refl (rep
     go false q ih = sym (ap (λ (b : Bool). cond b (replayVerdict (after (apply c e) es) fs) (verdict (c .control) e)) q)
 
 -- one event alone
-replay-one : (c : Config) (e : Event) → replayVerdict c (e ∷ []) ≡ verdict (c .control) e
+pub replay-one : (c : Config) (e : Event) → replayVerdict c (e ∷ []) ≡ verdict (c .control) e
 unfolding replayVerdict ifAccepted
 replay-one c e = go (accepted (verdict (c .control) e)) refl
   where
