@@ -1,6 +1,6 @@
 -- The events of the most processes in lock step: in each round everyone sends to all, and then each hears all and steps.
 -- Assumes nothing.
-use Prim.Native.Nat.{ℕ, zero, suc}
+use Prim.Native.Nat.{ℕ, zero, suc, _+_, _*_}
 use mathlib.Core.List.{List, [], _∷_, _++_}
 use Rattle.rounds.specs.declared.Event.{Event}
 use Rattle.rounds.specs.declared.Event.the-variants.{Receive, Step}
@@ -29,6 +29,10 @@ allTurn (suc k) = allTurn k ++ oneTurn k
 -- a round: all send, then all take their turn
 unfoldable pub oneRound : List Event
 oneRound = allSend mostProcesses ++ allTurn mostProcesses
+
+-- how many events that is: of each process, as many sends and as many receives as there are processes, and a step
+abbrev pub roundEvents : ℕ
+roundEvents = mostProcesses * (mostProcesses + mostProcesses + 1)
 
 -- so many rounds
 unfoldable pub manyRounds : ℕ → List Event

@@ -2,15 +2,16 @@
 // What is left at the end is known, and 'ok' is written where it is so. bench/ times this beside the same loop in C.
 use machine::MOST_PROCESSES;
 use machine::RUN;
-ghost use Prim.Native.Nat.{ℕ};
+ghost use Prim.Native.Nat.{ℕ, _*_};
 ghost use mathlib.Core.Path.{_≡_};
 ghost use lib.ListN.{length};
 ghost use Rattle.rounds.specs.Limits.{mostProcesses};
 ghost use Rattle.rounds.specs.Config.{Config, opening};
 ghost use Rattle.rounds.specs.Runs as Runs;
 ghost use Rattle.rounds.specs.Runs.{after};
+ghost use Rattle.words.specs.Layout.{Head, EVENTS, get};
 ghost use Rattle.words.specs.Shows.{Shows, Given};
-ghost use Rattle.lockstep.specs.LockStep.{receivesBelow, oneTurn, allSend, allTurn, oneRound, manyRounds};
+ghost use Rattle.lockstep.specs.LockStep.{roundEvents, receivesBelow, oneTurn, allSend, allTurn, oneRound, manyRounds};
 
 // As many processes as there can be.
 const ALL: u8 = MOST_PROCESSES as u8;
@@ -67,10 +68,11 @@ fn round(run: &mut [u32; RUN])
     all_turn(&mut *run);
 }
 
-// A run of the most processes with these values, from its opening.
+// A run of the most processes with these values, from its opening: every event is accepted, and counted.
 fn night(run: &mut [u32; RUN], values: &[u32])
     ensures { λ r. ⌜ ((v : ℕ → ℕ) → length (now (values .entry)) ≡ mostProcesses → Given mostProcesses (now (values .entry)) v
-        → Shows (now (run .exit)) (after (opening mostProcesses v) (manyRounds 1890))) ⌝ }
+        → Shows (now (run .exit)) (after (opening mostProcesses v) (manyRounds 1890))
+        × (get (now (run .exit)) (Head EVENTS) ≡ roundEvents * 1890)) ⌝ }
 {
     machine::begin(&mut *run, MOST_PROCESSES, values);
     for _ in 0..1890u32 {

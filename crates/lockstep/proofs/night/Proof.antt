@@ -1,4 +1,5 @@
--- `night` begins the run, and goes over its rounds; at each the memory shows the run of the rounds so far.
+-- `night` begins the run, and goes over its rounds; at each the memory shows the run of the rounds so far. All events of the run are
+-- accepted, and so it has counted each.
 -- Assumes nothing.
 use Prim.Native.Nat.{ℕ, _≤_, _-_}
 use native.Mathlib.Omega.{arith}
@@ -11,6 +12,7 @@ use Rattle.rounds.specs.Runs.{after}
 use Rattle.words.specs.Shows.{Shows, Given}
 use Rattle.lockstep.specs.LockStep.{manyRounds}
 use Rattle.lockstep.proofs.Joining.{most-open, rounds-next}
+use Rattle.lockstep.proofs.Accepting.{all-counted}
 use borrow.Author.Needs.{needs}
 use Rattle.lockstep.proofs.night.Statement.{statement}
 use Rattle.lockstep.proofs.night.Tie as tie
@@ -49,7 +51,8 @@ returns : tie.Need-returns Inv-loop μ-loop
 returns c =
     let l = c .before .loop in
     let f : l .counter ≡ 1890 = omega arith in
-    rw f at (l .inv .1)
+    let runs = rw f at (l .inv .1) in
+    λ v e g. (runs v e g, runs v e g .shown .events ∙ all-counted v 1890 (omega arith))
 
 pub night-spec : {M : Type 1} → statement M
 night-spec =
