@@ -20,7 +20,7 @@ use Rattle.rounds.specs.Runs.{after, replayVerdict, sends}
 use Rattle.rounds.specs.Allowed.{Sends, Receives, Steps}
 use Rattle.rounds.proofs.Updates.{at-each, at-one, at-other, at₂-one, at₂-same}
 use Rattle.lockstep.specs.LockStep.{receivesBelow, oneTurn, allSend, allTurn, oneRound, roundEvents, manyRounds}
-use Rattle.lockstep.proofs.Leading.{Leads, one, then, weaker, each}
+use Rattle.lockstep.proofs.Phases.{Phase, one, then, weaker, each}
 
 -- after e events a round begins: all processes are at round r, and have sent to nobody
 record Ready (e r : ℕ) (c : Control) : Type 0 where
@@ -203,7 +203,7 @@ module _ (e r : ℕ) (space : e + roundEvents ≤ mostEvents) (early : r < lastR
   ends c k = record { size = k .size; events = omega (arith, k .events); site = λ x l. k .site x l .ahead (omega arith) }
 
   -- ---- the round
-  all-send : Leads (Sent (sendPlace 0 0)) (allSend mostProcesses) (Sent (sendPlace mostProcesses 0))
+  all-send : Phase (Sent (sendPlace 0 0)) (allSend mostProcesses) (Sent (sendPlace mostProcesses 0))
   unfolding allSend sends nextControl
   all-send =
       each (λ p. Sent (sendPlace p 0)) allSend (sends mostProcesses) refl (λ p. refl) mostProcesses
@@ -211,7 +211,7 @@ module _ (e r : ℕ) (space : e + roundEvents ≤ mostEvents) (early : r < lastR
       (each (λ q. Sent (sendPlace p q)) (λ q. sends q p) (λ q. Send p q ∷ []) refl (λ q. refl) mostProcesses
       (λ q k. one (may-send p q h k) (sent-one p q h k))))
 
-  all-turn : Leads (Turned (turnPlace 0 0)) (allTurn mostProcesses) (Turned (turnPlace mostProcesses 0))
+  all-turn : Phase (Turned (turnPlace 0 0)) (allTurn mostProcesses) (Turned (turnPlace mostProcesses 0))
   unfolding allTurn oneTurn receivesBelow nextControl
   all-turn =
       each (λ p. Turned (turnPlace p 0)) allTurn oneTurn refl (λ p. refl) mostProcesses
@@ -220,12 +220,12 @@ module _ (e r : ℕ) (space : e + roundEvents ≤ mostEvents) (early : r < lastR
       (λ q k. one (may-receive p q h k) (received-one p q h k)))
       (one (may-step p h) (stepped p h)))
 
-  one-round : Leads (Ready e r) oneRound (Ready (e + roundEvents) (suc r))
+  one-round : Phase (Ready e r) oneRound (Ready (e + roundEvents) (suc r))
   unfolding oneRound
   one-round = then (weaker starts turns all-send) (weaker (λ c k. k) ends all-turn)
 
 -- ---- as many rounds as there is room for
-many-rounds : (n : ℕ) → roundEvents * n ≤ mostEvents → Leads (Ready 0 1) (manyRounds n) (Ready (roundEvents * n) (suc n))
+many-rounds : (n : ℕ) → roundEvents * n ≤ mostEvents → Phase (Ready 0 1) (manyRounds n) (Ready (roundEvents * n) (suc n))
 unfolding manyRounds
 many-rounds n space =
     each (λ k. Ready (roundEvents * k) (suc k)) manyRounds (λ k. oneRound) refl (λ k. refl) n

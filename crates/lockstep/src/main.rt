@@ -9,7 +9,7 @@ ghost use Rattle.rounds.specs.Limits.{mostProcesses};
 ghost use Rattle.rounds.specs.Config.{Config, opening};
 ghost use Rattle.rounds.specs.Runs as Runs;
 ghost use Rattle.rounds.specs.Runs.{after};
-ghost use Rattle.words.specs.Layout.{Head, EVENTS, get};
+ghost use Rattle.words.specs.Spelled.{controlOf};
 ghost use Rattle.words.specs.Shows.{Shows, Given};
 ghost use Rattle.lockstep.specs.LockStep.{roundEvents, receivesBelow, oneTurn, allSend, allTurn, oneRound, manyRounds};
 
@@ -72,7 +72,7 @@ fn round(run: &mut [u32; RUN])
 fn night(run: &mut [u32; RUN], values: &[u32])
     ensures { λ r. ⌜ ((v : ℕ → ℕ) → length (now (values .entry)) ≡ mostProcesses → Given mostProcesses (now (values .entry)) v
         → Shows (now (run .exit)) (after (opening mostProcesses v) (manyRounds 1890))
-        × (get (now (run .exit)) (Head EVENTS) ≡ roundEvents * 1890)) ⌝ }
+        × (controlOf (now (run .exit)) .events ≡ roundEvents * 1890)) ⌝ }
 {
     machine::begin(&mut *run, MOST_PROCESSES, values);
     for _ in 0..1890u32 {

@@ -10,6 +10,7 @@ use Rattle.rounds.specs.Config.{opening}
 use Rattle.rounds.specs.Verdicts.{openVerdict}
 use Rattle.rounds.specs.Runs.{after}
 use Rattle.words.specs.Shows.{Shows, Given}
+use Rattle.words.proofs.Reading.{events-means}
 use Rattle.lockstep.specs.LockStep.{manyRounds}
 use Rattle.lockstep.proofs.Joining.{most-open, rounds-next}
 use Rattle.lockstep.proofs.Accepting.{all-counted}
@@ -52,7 +53,7 @@ returns c =
     let l = c .before .loop in
     let f : l .counter ≡ 1890 = omega arith in
     let runs = rw f at (l .inv .1) in
-    λ v e g. (runs v e g, runs v e g .shown .events ∙ all-counted v 1890 (omega arith))
+    λ v e g. (runs v e g, events-means _ _ (runs v e g) ∙ all-counted v 1890 (omega arith))
 
 pub night-spec : {M : Type 1} → statement M
 night-spec =

@@ -13,20 +13,20 @@ use Rattle.rounds.specs.Events.{nextControl}
 use Rattle.rounds.specs.Runs.{after, replayVerdict}
 use Rattle.rounds.specs.Allowed.{Allowed}
 use Rattle.rounds.proofs.Answers.{accepted-is, allows}
-use Rattle.rounds.proofs.After.{after-append, apply-accepted, thenVerdict, replay-append, replay-one}
+use Rattle.rounds.proofs.InTurn.{after-append, apply-accepted, thenVerdict, replay-append, replay-one}
 
-pub record Leads (P : Control → Type 0) (es : List Event) (Q : Control → Type 0) : Type 0 where
+pub record Phase (P : Control → Type 0) (es : List Event) (Q : Control → Type 0) : Type 0 where
   pub accepts : (c : Config) → P (c .control) → replayVerdict c es ≡ Accepted
   pub comes : (c : Config) → P (c .control) → Q (after c es .control)
 
 -- no event
-pub none : {P : Control → Type 0} → Leads P [] P
+pub none : {P : Control → Type 0} → Phase P [] P
 unfolding replayVerdict after
 none = record { accepts = λ c p. refl; comes = λ c p. p }
 
 -- one that is allowed
 pub one : {P Q : Control → Type 0} {e : Event} → ((c : Control) → P c → Allowed c e) → ((c : Control) → P c → Q (nextControl c e))
-    → Leads P (e ∷ []) Q
+    → Phase P (e ∷ []) Q
 unfolding after
 one {P = P} {Q = Q} {e = e} may next =
     record {
@@ -38,7 +38,7 @@ one {P = P} {Q = Q} {e = e} may next =
     answer c p = allows (c .control) e (may (c .control) p)
 
 -- some, and then others
-pub then : {P Q R : Control → Type 0} {es fs : List Event} → Leads P es Q → Leads Q fs R → Leads P (es ++ fs) R
+pub then : {P Q R : Control → Type 0} {es fs : List Event} → Phase P es Q → Phase Q fs R → Phase P (es ++ fs) R
 unfolding accepted numberOf
 then {R = R} {es = es} {fs = fs} f g =
     record {
@@ -48,12 +48,12 @@ then {R = R} {es = es} {fs = fs} f g =
     }
 
 -- more is known before, or less is said after
-pub weaker : {P P′ Q Q′ : Control → Type 0} {es : List Event} → ((c : Control) → P′ c → P c) → ((c : Control) → Q c → Q′ c) → Leads P es Q
-    → Leads P′ es Q′
+pub weaker : {P P′ Q Q′ : Control → Type 0} {es : List Event} → ((c : Control) → P′ c → P c) → ((c : Control) → Q c → Q′ c) → Phase P es Q
+    → Phase P′ es Q′
 weaker f g a = record { accepts = λ c p. a .accepts c (f (c .control) p); comes = λ c p. g _ (a .comes c (f (c .control) p)) }
 
 -- parts, one after the other
 pub each : (I : ℕ → Control → Type 0) (f g : ℕ → List Event) → f 0 ≡ [] → ((k : ℕ) → f (suc k) ≡ f k ++ g k)
-    → (n : ℕ) → ((k : ℕ) → k < n → Leads (I k) (g k) (I (suc k))) → Leads (I 0) (f n) (I n)
+    → (n : ℕ) → ((k : ℕ) → k < n → Phase (I k) (g k) (I (suc k))) → Phase (I 0) (f n) (I n)
 each I f g first next zero part = rw first none
 each I f g first next (suc n) part = rw (next n) (then (each I f g first next n (λ k l. part k (omega arith))) (part n (omega arith)))
