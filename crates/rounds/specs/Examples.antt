@@ -1,6 +1,6 @@
 -- The starred examples of document 01, and examples of our own for slips that those let pass, each as a test that computes.
 -- Assumes nothing.
-use Prim.Native.Nat.{ℕ, zero, suc}
+use Prim.Native.Nat.{ℕ, zero, suc, _+_, _*_, _-_}
 use mathlib.Core.Bool.{Bool, true, false, _&&_}
 use mathlib.Core.List.{List, [], _∷_, _++_}
 use lib.Dec.{eqb}
@@ -13,6 +13,7 @@ use Rattle.rounds.specs.declared.Stage.the-variants.{Sending, Collecting
 use Rattle.rounds.specs.declared.Event.{Event}
 use Rattle.rounds.specs.declared.Event.the-variants.{Send, Receive, Step, Broadcast}
 use Rattle.rounds.specs.declared.Verdict.{Verdict}
+use Rattle.rounds.specs.Limits.{window, lastRound, mostEvents}
 use Rattle.rounds.specs.Config.{Control, Config, at, at₂, at₃, openControl, openContent, opening}
 use Rattle.rounds.specs.Stages.{sentToAll, heardFromAll, waited, stage, index, one, tick}
 use Rattle.rounds.specs.Verdicts.{numberOf, accepted, refuse, outside, crowded, ahead, sendVerdict, receiveVerdict, stepVerdict, firstRefusal, verdict, number}
@@ -58,6 +59,10 @@ waits c p =
 -- a process's value, vote and decision are these, as the `v` line has them
 abbrev pub votesAre : Config → ℕ → ℕ → Choice → Choice → Bool
 votesAre c p x v d = let h = c .content .holding p in eqb (h .value) x && same (h .vote) v && same (h .decision) d
+
+-- the lead of p over q is this
+abbrev pub leads : Config → ℕ → ℕ → ℕ → Bool
+leads c p q k = eqb (c .control .site p .round) (c .control .site q .round + k)
 
 -- the process, round and set of each report, as the `h` lines have them
 abbrev pub lines : List Report → List ℕ
@@ -139,13 +144,15 @@ example4 =
     let c = run sevenAndFour (apart ++ apart) in
     votesAre c 0 7 Absent (Present 7) && votesAre c 1 4 Absent (Present 4)
 
--- 5: then both hear both in rounds 3 to 6
+-- 5: then both hear both in rounds 3 to 6; what they hold after rounds 4, 5 and 6
 unfoldable pub example5 : Bool
 example5 =
     let c = run sevenAndFour (apart ++ apart ++ together ++ together) in
-    let d = run sevenAndFour (apart ++ apart ++ together ++ together ++ together ++ together) in
+    let d = run sevenAndFour (apart ++ apart ++ together ++ together ++ together) in
+    let e = run sevenAndFour (apart ++ apart ++ together ++ together ++ together ++ together) in
     votesAre c 0 4 Absent (Present 7) && votesAre c 1 4 Absent (Present 4)
-    && votesAre d 0 4 Absent (Present 4) && votesAre d 1 4 Absent (Present 4)
+    && votesAre d 0 4 (Present 4) (Present 7) && votesAre d 1 4 (Present 4) (Present 4)
+    && votesAre e 0 4 Absent (Present 4) && votesAre e 1 4 Absent (Present 4)
 
 -- 6: each hears itself in round 1; in round 2 process 0 hears both
 unfoldable pub example6 : Bool
@@ -159,13 +166,15 @@ example7 =
     let c = run sevenAndFour (Broadcast 0 ∷ Step 0 ∷ []) in
     votesAre c 0 7 Absent Absent && eqb (c .control .site 0 .round) 2
 
--- 8: the sender at round 8 and at round 9, the receiver at 1
+-- 8: the sender at round 8 and at round 9, the receiver at 1; so its lead is the last that is taken, and the one that is refused
 unfoldable pub example8 : Bool
 example8 =
     let c = run sevenAndFour (alone 0 7) in
     let d = run sevenAndFour (alone 0 8) in
-    eqb (c .control .site 0 .round) 8 && eqb (number (c .control) (Send 0 1)) 0
-    && eqb (d .control .site 0 .round) 9 && eqb (number (d .control) (Send 0 1)) 4
+    eqb (c .control .site 0 .round) 8 && eqb (c .control .site 1 .round) 1
+    && leads c 0 1 (window - 1) && eqb (number (c .control) (Send 0 1)) 0
+    && eqb (d .control .site 0 .round) 9 && eqb (d .control .site 1 .round) 1
+    && leads d 0 1 window && eqb (number (d .control) (Send 0 1)) 4
 
 -- 9: the same message received twice; in round 2, what was sent for round 1
 unfoldable pub example9 : Bool
@@ -207,12 +216,14 @@ lateMessage =
     && eqb (c .control .transit 1 1) 0 && eqb (c .control .transit 1 2) 2
     && equal (waits c 1) (2 ∷ 5 ∷ 1 ∷ 0 ∷ 0 ∷ 2 ∷ [])
 
--- an early message waits: sent with a lead of 7, it is received once its receiver has come to its round
+-- an early message waits: sent with the greatest lead that is taken, it is received once its receiver has come to its round.
+-- A round alone is three events: two sends and a step
 unfoldable pub earlyMessage : Bool
 earlyMessage =
-    let es = alone 0 7 ++ (Send 0 1 ∷ []) ++ alone 1 7 ++ (Receive 1 0 ∷ []) in
-    let c = run sevenAndFour es in
-    eqb (c .control .site 1 .round) 8 && eqb (c .control .site 1 .heard) 1 && eqb (c .control .events) 44
+    let c = run sevenAndFour (alone 0 (window - 1)) in
+    let d = run sevenAndFour (alone 0 (window - 1) ++ (Send 0 1 ∷ []) ++ alone 1 (window - 1) ++ (Receive 1 0 ∷ [])) in
+    leads c 0 1 (window - 1)
+    && eqb (d .control .site 1 .round) window && eqb (d .control .site 1 .heard) 1 && eqb (d .control .events) (6 * (window - 1) + 2)
 
 -- an empty heard set agrees on nothing in an even round either: no decision, and the vote is gone
 unfoldable pub silentEven : Bool
@@ -232,11 +243,12 @@ halfBroadcast =
     let c = run sevenAndFour (Send 0 1 ∷ Broadcast 0 ∷ []) in
     equal (numbers sevenAndFour (Send 0 1 ∷ Broadcast 0 ∷ [])) (0 ∷ 3 ∷ []) && eqb (c .control .site 0 .sent) 2 && eqb (c .control .events) 1
 
--- one refusal before the other: 2 comes first, and a broadcast gives the number of its first refused target
+-- one refusal before the other, at the lead that is refused: 2 comes first, and a broadcast gives the number of its first refused target
 unfoldable pub refusalOrder : Bool
 refusalOrder =
-    let c = run sevenAndFour (alone 0 8 ++ (Send 0 0 ∷ [])) in
-    eqb (number (c .control) (Send 0 2)) 2 && eqb (number (c .control) (Receive 2 0)) 2 && eqb (number (c .control) (Step 2)) 2
+    let c = run sevenAndFour (alone 0 window ++ (Send 0 0 ∷ [])) in
+    leads c 0 1 window
+    && eqb (number (c .control) (Send 0 2)) 2 && eqb (number (c .control) (Receive 2 0)) 2 && eqb (number (c .control) (Step 2)) 2
     && eqb (number (c .control) (Send 0 0)) 3 && eqb (number (c .control) (Send 0 1)) 4 && eqb (number (c .control) (Broadcast 0)) 3
     && eqb (number (c .control) (Step 1)) 6
 
@@ -252,24 +264,23 @@ limitsAt events round sent =
       count = λ p s. 0;
     }
 
--- 2 before 8; 8 before 3, 5 and 6; a broadcast needs room for all its events; 6 before 7; round 65,534 is not the last
+-- 2 before 8; 8 before 3, 5 and 6; a broadcast needs room for all its events; 6 before 7; the round before the last is not the last
 unfoldable pub atTheLimits : Bool
 atTheLimits =
-    let whole = limitsAt 1000000 1 0 in
-    let spoken = limitsAt 1000000 1 3 in
-    let almost = limitsAt 999999 1 0 in
+    let whole = limitsAt mostEvents 1 0 in
+    let spoken = limitsAt mostEvents 1 3 in
+    let almost = limitsAt (mostEvents - 1) 1 0 in
     eqb (number whole (Send 0 2)) 2 && eqb (number whole (Send 0 1)) 8 && eqb (number whole (Receive 0 1)) 8 && eqb (number whole (Step 0)) 8
     && eqb (number whole (Broadcast 2)) 2 && eqb (number spoken (Send 0 1)) 8 && eqb (number spoken (Broadcast 0)) 8
     && eqb (number almost (Send 0 1)) 0 && eqb (number almost (Broadcast 0)) 8
-    && eqb (number (limitsAt 0 65535 0) (Step 0)) 6 && eqb (number (limitsAt 0 65535 3) (Step 0)) 7 && eqb (number (limitsAt 0 65534 3) (Step 0)) 0
+    && eqb (number (limitsAt 0 lastRound 0) (Step 0)) 6 && eqb (number (limitsAt 0 lastRound 3) (Step 0)) 7
+    && eqb (number (limitsAt 0 (lastRound - 1) 3) (Step 0)) 0
 
 -- ---- all of them
 unfoldable pub starred : List Bool
-unfolding run numbers steps example1 example2 example3 example4 example5 example6 example7 example8 example9
 starred = example1 ∷ example2 ∷ example3 ∷ example4 ∷ example5 ∷ example6 ∷ example7 ∷ example8 ∷ example9 ∷ []
 
 unfoldable pub ours : List Bool
-unfolding run numbers steps carriedReach carriedValue ownMessage lateMessage earlyMessage silentEven heardEveryone halfBroadcast refusalOrder atTheLimits
 ours =
     carriedReach ∷ carriedValue ∷ ownMessage ∷ lateMessage ∷ earlyMessage ∷ silentEven ∷ heardEveryone ∷ halfBroadcast ∷ refusalOrder ∷ atTheLimits
     ∷ []
