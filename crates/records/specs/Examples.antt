@@ -1,11 +1,12 @@
 -- What some bytes say, each as a test that computes: every record, and every pair of document 01's tests in its order.
 -- Assumes nothing.
-use Prim.Native.Nat.{ℕ}
+use Prim.Native.Nat.{ℕ, suc, _+_, _*_}
 use mathlib.Core.Bool.{Bool, _&&_}
 use mathlib.Core.List.{List, [], _∷_, _++_}
 use lib.ListN.{replicate}
 use Rattle.rounds.specs.declared.Event.{Event}
 use Rattle.rounds.specs.declared.Event.the-variants as event
+use Rattle.rounds.specs.Limits.{mostProcesses}
 use Rattle.rounds.specs.Examples.{equal}
 use Rattle.records.specs.declared.Place.{Place}
 use Rattle.records.specs.declared.Place.the-variants.{First, Later, Behind}
@@ -54,47 +55,117 @@ input =
     ∷ 127 ∷ 0 ∷ 0
     ∷ []
 
+-- an opening of n processes, of the value 0 each. Its length is below 256
+abbrev pub openingOf : ℕ → List ℕ
+openingOf n = 1 ∷ 0 ∷ (1 + 4 * n) ∷ n ∷ replicate (4 * n) 0
+
+-- ---- whole records, whatever follows
+unfoldable pub openingOfOne : Bool
+openingOfOne = says First (1 ∷ 0 ∷ 5 ∷ 1 ∷ 0 ∷ 0 ∷ 0 ∷ 7 ∷ 16 ∷ []) (1 ∷ 1 ∷ [])
+
+-- an N above the limit is a whole record too: that it is refused is the machine's
+unfoldable pub openingOfTooMany : Bool
+openingOfTooMany = says First (openingOf (suc mostProcesses)) (1 ∷ suc mostProcesses ∷ [])
+
+unfoldable pub openingOfNobody : Bool
+openingOfNobody = says First (1 ∷ 0 ∷ 1 ∷ 0 ∷ []) (1 ∷ 0 ∷ [])
+
+unfoldable pub sendRecord : Bool
+sendRecord = says Later (16 ∷ 0 ∷ 2 ∷ 3 ∷ 4 ∷ 5 ∷ []) (16 ∷ 3 ∷ 4 ∷ [])
+
+unfoldable pub receiveRecord : Bool
+receiveRecord = says Later (17 ∷ 0 ∷ 2 ∷ 3 ∷ 4 ∷ []) (17 ∷ 3 ∷ 4 ∷ [])
+
+unfoldable pub stepRecord : Bool
+stepRecord = says Later (18 ∷ 0 ∷ 1 ∷ 255 ∷ []) (18 ∷ 255 ∷ [])
+
+unfoldable pub broadcastRecord : Bool
+broadcastRecord = says Later (19 ∷ 0 ∷ 1 ∷ 3 ∷ []) (19 ∷ 3 ∷ [])
+
+unfoldable pub endRecord : Bool
+endRecord = says Later (127 ∷ 0 ∷ 0 ∷ []) (127 ∷ [])
+
+-- ---- fewer than 3 bytes, before the tag
+unfoldable pub noByte : Bool
+noByte = says First [] []
+
+unfoldable pub twoBytes : Bool
+twoBytes = says Later (32 ∷ 0 ∷ []) []
+
+-- ---- the tag, before the place
+unfoldable pub unknownFirst : Bool
+unknownFirst = says First (32 ∷ 0 ∷ 0 ∷ []) (10 ∷ [])
+
+unfoldable pub unknownLater : Bool
+unknownLater = says Later (2 ∷ 0 ∷ 0 ∷ []) (10 ∷ [])
+
+-- ---- the place, before the length
+unfoldable pub sendFirst : Bool
+sendFirst = says First (16 ∷ 0 ∷ 9 ∷ []) (12 ∷ [])
+
+unfoldable pub endFirst : Bool
+endFirst = says First (127 ∷ 0 ∷ 0 ∷ []) (12 ∷ [])
+
+unfoldable pub openingLater : Bool
+openingLater = says Later (1 ∷ 0 ∷ 0 ∷ []) (12 ∷ [])
+
+-- ---- the length, before the body; it is big-endian
+unfoldable pub sendOfThree : Bool
+sendOfThree = says Later (16 ∷ 0 ∷ 3 ∷ []) (11 ∷ [])
+
+unfoldable pub sendLittleEndian : Bool
+sendLittleEndian = says Later (16 ∷ 2 ∷ 0 ∷ 3 ∷ 4 ∷ []) (11 ∷ [])
+
+unfoldable pub endNotEmpty : Bool
+endNotEmpty = says Later (127 ∷ 1 ∷ 0 ∷ []) (11 ∷ [])
+
+unfoldable pub sendCut : Bool
+sendCut = says Later (16 ∷ 0 ∷ 2 ∷ 3 ∷ []) []
+
+unfoldable pub stepCut : Bool
+stepCut = says Later (18 ∷ 0 ∷ 1 ∷ []) []
+
+-- ---- an opening: length 0, N missing, the length for N, the rest missing
+unfoldable pub openingOfNoLength : Bool
+openingOfNoLength = says First (1 ∷ 0 ∷ 0 ∷ []) (11 ∷ [])
+
+unfoldable pub openingWithoutN : Bool
+openingWithoutN = says First (1 ∷ 0 ∷ 4 ∷ []) []
+
+unfoldable pub openingTooShort : Bool
+openingTooShort = says First (1 ∷ 0 ∷ 8 ∷ 2 ∷ []) (11 ∷ [])
+
+unfoldable pub openingLittleEndian : Bool
+openingLittleEndian = says First (1 ∷ 9 ∷ 0 ∷ 2 ∷ []) (11 ∷ [])
+
+unfoldable pub openingCut : Bool
+openingCut = says First (1 ∷ 0 ∷ 9 ∷ 2 ∷ 0 ∷ 0 ∷ 0 ∷ 7 ∷ 0 ∷ 0 ∷ 0 ∷ []) []
+
+-- ---- behind the end record
+unfoldable pub nothingBehind : Bool
+nothingBehind = says Behind [] []
+
+unfoldable pub byteBehind : Bool
+byteBehind = says Behind (0 ∷ []) (13 ∷ [])
+
+unfoldable pub endBehind : Bool
+endBehind = says Behind (127 ∷ 0 ∷ 0 ∷ []) (13 ∷ [])
+
+-- ---- values are big-endian
+unfoldable pub valuesBigEndian : Bool
+valuesBigEndian = equal (valuesOf 2 (1 ∷ 0 ∷ 9 ∷ 2 ∷ 1 ∷ 2 ∷ 3 ∷ 4 ∷ 0 ∷ 0 ∷ 1 ∷ 0 ∷ 99 ∷ [])) (16909060 ∷ 256 ∷ [])
+
+-- ---- all records, one after the other: document 01's input, and with a byte behind it
+unfoldable pub wholeInput : Bool
+wholeInput = reads input (16 ∷ 0 ∷ 0 ∷ 16 ∷ 0 ∷ 1 ∷ 17 ∷ 0 ∷ 0 ∷ 16 ∷ 1 ∷ 0 ∷ 17 ∷ 0 ∷ 1 ∷ 18 ∷ 0 ∷ []) []
+
+unfoldable pub inputAndMore : Bool
+inputAndMore = reads (input ++ (0 ∷ [])) (16 ∷ 0 ∷ 0 ∷ 16 ∷ 0 ∷ 1 ∷ 17 ∷ 0 ∷ 0 ∷ 16 ∷ 1 ∷ 0 ∷ 17 ∷ 0 ∷ 1 ∷ 18 ∷ 0 ∷ []) (0 ∷ [])
+
+-- ---- all of them
 unfoldable pub examples : List Bool
-unfolding says reads input
 examples =
-    -- whole records, whatever follows
-    says First (1 ∷ 0 ∷ 5 ∷ 1 ∷ 0 ∷ 0 ∷ 0 ∷ 7 ∷ 16 ∷ []) (1 ∷ 1 ∷ [])
-    ∷ says First (1 ∷ 0 ∷ 69 ∷ 17 ∷ replicate 68 0) (1 ∷ 17 ∷ [])
-    ∷ says First (1 ∷ 0 ∷ 1 ∷ 0 ∷ []) (1 ∷ 0 ∷ [])
-    ∷ says Later (16 ∷ 0 ∷ 2 ∷ 3 ∷ 4 ∷ 5 ∷ []) (16 ∷ 3 ∷ 4 ∷ [])
-    ∷ says Later (17 ∷ 0 ∷ 2 ∷ 3 ∷ 4 ∷ []) (17 ∷ 3 ∷ 4 ∷ [])
-    ∷ says Later (18 ∷ 0 ∷ 1 ∷ 255 ∷ []) (18 ∷ 255 ∷ [])
-    ∷ says Later (19 ∷ 0 ∷ 1 ∷ 3 ∷ []) (19 ∷ 3 ∷ [])
-    ∷ says Later (127 ∷ 0 ∷ 0 ∷ []) (127 ∷ [])
-    -- fewer than 3 bytes, before the tag
-    ∷ says First [] []
-    ∷ says Later (32 ∷ 0 ∷ []) []
-    -- the tag, before the place
-    ∷ says First (32 ∷ 0 ∷ 0 ∷ []) (10 ∷ [])
-    ∷ says Later (2 ∷ 0 ∷ 0 ∷ []) (10 ∷ [])
-    -- the place, before the length
-    ∷ says First (16 ∷ 0 ∷ 9 ∷ []) (12 ∷ [])
-    ∷ says First (127 ∷ 0 ∷ 0 ∷ []) (12 ∷ [])
-    ∷ says Later (1 ∷ 0 ∷ 0 ∷ []) (12 ∷ [])
-    -- the length, before the body; it is big-endian
-    ∷ says Later (16 ∷ 0 ∷ 3 ∷ []) (11 ∷ [])
-    ∷ says Later (16 ∷ 2 ∷ 0 ∷ 3 ∷ 4 ∷ []) (11 ∷ [])
-    ∷ says Later (127 ∷ 1 ∷ 0 ∷ []) (11 ∷ [])
-    ∷ says Later (16 ∷ 0 ∷ 2 ∷ 3 ∷ []) []
-    ∷ says Later (18 ∷ 0 ∷ 1 ∷ []) []
-    -- an opening: length 0, N missing, the length for N, the rest missing
-    ∷ says First (1 ∷ 0 ∷ 0 ∷ []) (11 ∷ [])
-    ∷ says First (1 ∷ 0 ∷ 4 ∷ []) []
-    ∷ says First (1 ∷ 0 ∷ 8 ∷ 2 ∷ []) (11 ∷ [])
-    ∷ says First (1 ∷ 9 ∷ 0 ∷ 2 ∷ []) (11 ∷ [])
-    ∷ says First (1 ∷ 0 ∷ 9 ∷ 2 ∷ 0 ∷ 0 ∷ 0 ∷ 7 ∷ 0 ∷ 0 ∷ 0 ∷ []) []
-    -- behind the end record
-    ∷ says Behind [] []
-    ∷ says Behind (0 ∷ []) (13 ∷ [])
-    ∷ says Behind (127 ∷ 0 ∷ 0 ∷ []) (13 ∷ [])
-    -- values are big-endian
-    ∷ equal (valuesOf 2 (1 ∷ 0 ∷ 9 ∷ 2 ∷ 1 ∷ 2 ∷ 3 ∷ 4 ∷ 0 ∷ 0 ∷ 1 ∷ 0 ∷ 99 ∷ [])) (16909060 ∷ 256 ∷ [])
-    -- all records, one after the other
-    ∷ reads input (16 ∷ 0 ∷ 0 ∷ 16 ∷ 0 ∷ 1 ∷ 17 ∷ 0 ∷ 0 ∷ 16 ∷ 1 ∷ 0 ∷ 17 ∷ 0 ∷ 1 ∷ 18 ∷ 0 ∷ []) []
-    ∷ reads (input ++ (0 ∷ [])) (16 ∷ 0 ∷ 0 ∷ 16 ∷ 0 ∷ 1 ∷ 17 ∷ 0 ∷ 0 ∷ 16 ∷ 1 ∷ 0 ∷ 17 ∷ 0 ∷ 1 ∷ 18 ∷ 0 ∷ []) (0 ∷ [])
-    ∷ []
+    openingOfOne ∷ openingOfTooMany ∷ openingOfNobody ∷ sendRecord ∷ receiveRecord ∷ stepRecord ∷ broadcastRecord ∷ endRecord ∷ noByte ∷ twoBytes
+    ∷ unknownFirst ∷ unknownLater ∷ sendFirst ∷ endFirst ∷ openingLater ∷ sendOfThree ∷ sendLittleEndian ∷ endNotEmpty ∷ sendCut ∷ stepCut
+    ∷ openingOfNoLength ∷ openingWithoutN ∷ openingTooShort ∷ openingLittleEndian ∷ openingCut ∷ nothingBehind ∷ byteBehind ∷ endBehind
+    ∷ valuesBigEndian ∷ wholeInput ∷ inputAndMore ∷ []
