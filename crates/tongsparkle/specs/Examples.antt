@@ -1,5 +1,5 @@
 -- Calls of the monitoring service and what they give and leave, each as a test that computes. Assumes nothing.
-use Prim.Native.Nat.{ℕ, _-_, _*_}
+use Prim.Native.Nat.{ℕ, _+_, _*_, _-_}
 use mathlib.Core.Bool.{Bool, _&&_}
 use mathlib.Core.List.{List, [], _∷_, _++_}
 use lib.Dec.{eqb}
@@ -26,22 +26,35 @@ inputRows =
     ∷ 0 ∷ 0 ∷ 0 ∷ 1 ∷ 0 ∷ 0 ∷ 0 ∷ 6 ∷ 0 ∷ 0 ∷ 0 ∷ 0 ∷ 0 ∷ 0 ∷ 0 ∷ 0 ∷ 0 ∷ 0 ∷ 0 ∷ 0 ∷ 0 ∷ 0 ∷ 0 ∷ 2
     ∷ []
 
+-- ---- document 01's trace, with just enough room, which is document 01's number, and with more
+unfoldable pub enoughRoom : Bool
+enoughRoom = eqb room 384 && gives input (fives room) 0 (inputRows ++ fives (room - 2 * rowBytes))
+
+unfoldable pub moreRoom : Bool
+moreRoom = gives input (fives (room + 16)) 0 (inputRows ++ fives (room + 16 - 2 * rowBytes))
+
+-- ---- a byte less: nothing is written, though two rows would fit
+unfoldable pub oneByteShort : Bool
+oneByteShort = gives input (fives (room - 1)) 14 (fives (room - 1))
+
+unfoldable pub noReport : Bool
+noReport = gives [] [] 14 []
+
+-- ---- a refused event leaves the report of the accepted ones
+unfoldable pub byteBehind : Bool
+byteBehind = gives (input ++ (0 ∷ [])) (fives room) 13 (inputRows ++ fives (room - 2 * rowBytes))
+
+-- ---- without an accepted opening nothing is written
+unfoldable pub noByte : Bool
+noByte = gives [] (fives room) 9 (fives room)
+
+unfoldable pub openingOfNobody : Bool
+openingOfNobody = gives (1 ∷ 0 ∷ 1 ∷ 0 ∷ []) (fives room) 1 (fives room)
+
+-- ---- the most significant byte comes first
+unfoldable pub bigEndian : Bool
+bigEndian = equal (word 16909060) (1 ∷ 2 ∷ 3 ∷ 4 ∷ [])
+
+-- ---- all of them
 unfoldable pub examples : List Bool
-unfolding gives
-examples =
-    -- document 01's trace, with just enough room and with more
-    gives input (fives room) 0 (inputRows ++ fives (room - 2 * rowBytes))
-    ∷ gives input (fives 400) 0 (inputRows ++ fives 352)
-    -- a byte less: nothing is written, though two rows would fit
-    ∷ gives input (fives (room - 1)) 14 (fives (room - 1))
-    ∷ gives [] [] 14 []
-    -- a refused event leaves the report of the accepted ones
-    ∷ gives (input ++ (0 ∷ [])) (fives room) 13 (inputRows ++ fives (room - 2 * rowBytes))
-    -- without an accepted opening nothing is written
-    ∷ gives [] (fives room) 9 (fives room)
-    ∷ gives (1 ∷ 0 ∷ 1 ∷ 0 ∷ []) (fives room) 1 (fives room)
-    -- the room is document 01's
-    ∷ eqb room 384
-    -- the most significant byte comes first
-    ∷ equal (word 16909060) (1 ∷ 2 ∷ 3 ∷ 4 ∷ [])
-    ∷ []
+examples = enoughRoom ∷ moreRoom ∷ oneByteShort ∷ noReport ∷ byteBehind ∷ noByte ∷ openingOfNobody ∷ bigEndian ∷ []
