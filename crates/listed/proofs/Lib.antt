@@ -1,4 +1,5 @@
 -- What the proofs of the list's functions share.
 pub mod Turning
 pub mod SameRun
+pub mod Blind
 pub mod Walking

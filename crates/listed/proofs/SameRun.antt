@@ -4,7 +4,7 @@ use mathlib.Core.Path.{_≡_, sym, ap, _∙_}
 use mathlib.Core.List.{List}
 use Rattle.sets.proofs.Determined.{determined}
 use Rattle.rounds.specs.Verdicts.{numberOf}
-use Rattle.rounds.specs.Runs.{nightVerdict, night}
+use Rattle.rounds.specs.Runs.{nightVerdict, night, nightReports}
 use Rattle.words.specs.Layout.{Mem}
 use Rattle.words.specs.Calls.{nightWords}
 use Rattle.records.specs.declared.Place.the-variants.{First}
@@ -23,11 +23,13 @@ pub record Lists (w : List ℕ) (n : ℕ) (values : List ℕ) (events : List lis
   pub values-are : values ≡ valuesOf n w
   pub events-are : eventsOf events ≡ script First w .events
 
--- the words that both leave, the run that these show, and the number, in the terms of the two contracts
+-- the words that both leave, the run that these show, and the number, in the terms of the two contracts; and the heard-of sets, which the list's
+-- replay does not give: those of its night
 pub record SameRun (w : List ℕ) (n : ℕ) (values : List ℕ) (events : List listed.Event) : Type 0 where
   pub number : endingNumber (outcome w .ending) ≡ numberOf (nightVerdict n values (eventsOf events))
   pub words : traceWords w ≡ nightWords n values (eventsOf events)
   pub run : outcome w .config ≡ night n values (eventsOf events)
+  pub heardOf : outcome w .reports ≡ nightReports n values (eventsOf events)
 
 pub same-run : (w : List ℕ) (n : ℕ) (values : List ℕ) (events : List listed.Event) → endingNumber (outcome w .ending) ≡ 0
     → Lists w n values events → SameRun w n values events
@@ -39,6 +41,7 @@ same-run w n values events z l =
       number = z ∙ sym (rw (l .values-are, l .events-are, ← size) (ap numberOf (k .accepted)));
       words = rw (l .values-are, l .events-are, ← size) (k .words);
       run = rw (l .values-are, l .events-are, ← size) (k .run);
+      heardOf = rw (l .values-are, l .events-are, ← size) (k .reports);
     }
 
 -- two results that the contract of `replay_list`, and of `replay_six`, allows are equal, the whole memory included

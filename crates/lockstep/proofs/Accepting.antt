@@ -10,7 +10,7 @@ use borrow.Author.Tests.{le-leb, lt-ltb}
 use Rattle.sets.specs.Sets.{empty, has, with, full}
 use Rattle.sets.proofs.Membership.{with-own, with-kept, with-other, without-other, has-empty}
 use Rattle.sets.proofs.Bounds.{with-below, full-only, empty-below}
-use Rattle.rounds.specs.declared.Event.the-variants.{Send, Receive, Step}
+use Rattle.rounds.specs.declared.Event.the-variants.{Send, Receive}
 use Rattle.rounds.specs.declared.Verdict.the-variants.{Accepted}
 use Rattle.rounds.specs.Limits.{mostProcesses, window, lastRound, mostEvents}
 use Rattle.rounds.specs.Config.{Control, at₂, openControl, opening}

@@ -5,7 +5,7 @@ use native.Mathlib.Omega.{arith}
 use mathlib.Core.Path.{_≡_, refl}
 use mathlib.Core.Bool.{Bool, true, false, cond}
 use lib.Dec.{ltb}
-use borrow.Author.Tests.{lt-leb, ltb-false}
+use borrow.Author.Tests.{le-leb, lt-leb, ltb-false}
 use Rattle.rounds.specs.Limits.{mostProcesses}
 use Rattle.rounds.specs.declared.Stage.{Stage}
 use Rattle.rounds.specs.declared.Stage.the-variants.{Sending, Collecting, Pending, Idle}
@@ -13,7 +13,7 @@ use Rattle.rounds.specs.Config.{Config}
 use Rattle.rounds.specs.Claims.{total}
 use Rattle.words.specs.Layout.{Mem, Head, get, SIZE}
 use Rattle.words.specs.Spelled.{word, people, controlOf, countOf}
-use Rattle.words.specs.Calls.{standingOf}
+use Rattle.words.specs.Calls.{nobody, standingOf}
 use Rattle.words.specs.Shows.{Shows, standing}
 use Rattle.words.proofs.Spelling.{round-word, reach-word, people-shown, stage-shown}
 use Rattle.words.proofs.Fitting.{Fit, word-fits, fit, total-of}
@@ -60,6 +60,11 @@ module _ (m : Mem) (c : Config) (k : Shows m c) where
         count-shown p Pending h,
         count-shown p Idle h,
       )
+
+  -- of a process that is not there nothing is shown
+  pub site-none : (p : ℕ) → c .control .size ≤ p → standingOf m p ≡ nobody
+  unfolding standingOf
+  site-none p h = rw (size-means, le-leb (c .control .size) p h)
 
   -- the four counts that are shown of a process add up to the accepted events
   pub counts-add-up : (p : ℕ) → p < c .control .size
