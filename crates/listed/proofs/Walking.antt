@@ -1,22 +1,36 @@
--- What the walks of the list's functions share: the run's words and the events as their types have them, and the parts of a body.
--- Assumes nothing.
+-- What the walks of the list's functions share, beside Locals and Calling, which say nothing of the crate: the run's words and the events as their
+-- types have them. Assumes nothing.
+--
+-- The next function over a lent list is proved as these are: replay_list has no loop, follow has one, replay_six lends an array of its own.
+--   1. `stayed` says what is had of each parameter at exit, `bound` and `Post` are the walk's own contract at the parameters, and `tokens` are those
+--      of the lifetimes.
+--   2. `exits` goes from the run and the tokens to `Post`: `ends-at`, then `says`, which shows the fact, then `has-at-exit`.
+--   3. `walk` begins with `has-at-entry`, a list of all that is had, of which `move` puts in front what the first call takes; `enters` then allocates
+--      the locals. Their types are the code's own: no list of them is written.
+--   4. From there a line for each statement: `sets` for an assignment, `calls-lent` (or `calls`) and `keeps` for a call, `unless` for an `if` that
+--      returns, `leaves` at a `return`. No line says where a local stands; `move` and `keep` count what stands before the locals, which comments list.
+--   5. A loop has a `State`, `begun`, what the first locals hold where a turn begins, and `At`, all entries there; a turn is a walk of its own, and
+--      ends in `clears` and `again`.
+--   6. `meets` is the walk at all lifetimes, shares and arguments.
+-- So an added local changes `begun`, if it holds something where a turn begins, and nothing otherwise.
 use Prim.Native.Nat.{ℕ, _<_, _^_}
-use mathlib.Core.Path.{_≡_, sym, subst}
+use mathlib.Core.Path.{_≡_}
 use mathlib.Core.Bool.{Bool, true, false, not}
-use mathlib.Core.List.{[], _∷_, List}
+use mathlib.Core.List.{List}
 use lib.Dec.{T as Holds, eqb, eqb→eq}
-use package.mir.Syntax.{Ty, Body, erased, named, mut, w32, tyInt, tyRef, tyArray, skip, seq, assign, block, loop, cond, switch, exit, return, call}
-use package.mir.Val.{Val, vint, vptr, hasTy, WT}
+use package.mir.Syntax.{w64}
+use package.mir.Val.{Val, vint, WT}
 use base.Fml.{GName, Lft, Fml}
 use denote.RattleType.{RattleType}
 use denote.Array.{Array}
 use denote.Builtin.{u32, ArrayOf}
-use denote.Ref.{RefT, MutRef}
+use denote.Ref.{RefT}
 use denote.Signature.{Slot, plain}
 use denote.Struct.Laws as LL
 use Rattle.words.specs.Layout.{RUN, Mem}
 use Rattle.listed.specs.declared.Event.{Event}
 use Rattle.listed.specs.declared.Kind.the-variants.{Send}
+use Rattle.listed.proofs.Calling.{Lent}
 use Rattle.listed.proofs.Event as T
 use Rattle.listed.proofs.Event.Laws as T′
 
@@ -38,39 +52,17 @@ abbrev pub none : Event
 none = record { kind = Send; first = 0; second = 0 }
 
 -- ---- the run as it is lent: at a place, under a name, with its words
-abbrev arr : Ty
-arr = tyArray (tyInt w32) RUN
-
 abbrev pub ref : ℕ → ℕ → GName → Mem → RefT Mem
 ref b o δ m = record { ptr = (b, o); name = δ; now = m }
 
-abbrev pub Run : ℕ → ℕ → Lft → GName → Mem → Fml
-Run b o ν δ m = MutRef (named 0) ν R .own (ref b o δ m) (vptr b o ∷ [])
+abbrev pub RunAt : ℕ → ℕ → Lft → GName → Mem → Fml
+RunAt b o ν δ m = Lent R b o ν δ m
 
--- the reference as a parameter has it, and as a local that lends it on
-abbrev pub kept : Ty
-kept = tyRef (named 0) mut arr
+-- ---- a list's place and length have their types
+abbrev pub sized : (n : ℕ) → n < 2 ^ 64 → Unit {0} × (Unit {0} × (WT (vint w64 n) × Unit {0}))
+sized n fits = (tt, (tt, (record { fits = fits }, tt)))
 
-abbrev pub lent : Ty
-lent = tyRef erased mut arr
-
--- ---- the rest of a sequence
-abbrev pub tail : Body → Body
-tail skip = skip
-tail (seq a b) = b
-tail (assign p v) = skip
-tail (block b) = skip
-tail (loop b) = skip
-tail (cond c a b) = skip
-tail (switch c xs) = skip
-tail (exit n) = skip
-tail return = skip
-tail (call k xs d) = skip
-
--- ---- a callee's answer: it is a word, and 0 where the test against 0 fails
-pub a-word : (v : Val) (r : ℕ) → v ≡ vint w32 r → r < 2 ^ 32 → Holds (hasTy (tyInt w32) v) × WT v
-a-word v r is small = subst (λ (y : Val). Holds (hasTy (tyInt w32) y) × WT y) (sym is) (tt, record { fits = small })
-
+-- ---- the test of an answer against 0 fails: it is 0
 not-not : (t : Bool) → Holds (not (not t)) → Holds t
 not-not true h = tt
 not-not false h = h
