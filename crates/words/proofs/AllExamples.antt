@@ -8,10 +8,26 @@ use Rattle.words.specs.Examples.{memory, agreeing, starred, ours}
 use Rattle.words.specs.Examples.{example1, examples2And3, examples4And5, example6, example7, example8, example9}
 use Rattle.words.specs.Examples.{carriedLetter, ownLetter, lateLetter, earlyLetter, silentEven, heardEveryone, heardItself, halfBroadcast, placeAgain, refusalOrder, openingOfNobody, openingShortOfValues, openingAnew}
 
--- ---- the starred examples
+-- ---- the starred examples, the short runs first: of a long one that fails, the checker may give up computing what it comes to
 pub example-1 : example1 ≡ true
 unfolding memory agreeing example1
 example-1 = refl
+
+pub example-7 : example7 ≡ true
+unfolding memory agreeing example7
+example-7 = refl
+
+pub example-9 : example9 ≡ true
+unfolding memory agreeing example9
+example-9 = refl
+
+pub example-6 : example6 ≡ true
+unfolding memory agreeing example6
+example-6 = refl
+
+pub example-8 : example8 ≡ true
+unfolding memory agreeing example8
+example-8 = refl
 
 pub examples-2-and-3 : examples2And3 ≡ true
 unfolding memory agreeing examples2And3
@@ -20,22 +36,6 @@ examples-2-and-3 = refl
 pub examples-4-and-5 : examples4And5 ≡ true
 unfolding memory agreeing examples4And5
 examples-4-and-5 = refl
-
-pub example-6 : example6 ≡ true
-unfolding memory agreeing example6
-example-6 = refl
-
-pub example-7 : example7 ≡ true
-unfolding memory agreeing example7
-example-7 = refl
-
-pub example-8 : example8 ≡ true
-unfolding memory agreeing example8
-example-8 = refl
-
-pub example-9 : example9 ≡ true
-unfolding memory agreeing example9
-example-9 = refl
 
 -- ---- our own
 pub carried-letter : carriedLetter ≡ true
