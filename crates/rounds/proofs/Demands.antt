@@ -47,7 +47,7 @@ refused-changes-nothing c e r = apply-refused c e (refused-is (verdict (c .contr
 pub accepted-exactly : (c : Control) (e : Event) → (verdict c e ≡ Accepted) ↔ Allowed c e
 accepted-exactly c e = (λ a. allowed c e (accepted-is (verdict c e) a), allows c e)
 
--- an opening is accepted exactly for 1 to 16 processes with a value for each
+-- an opening is accepted exactly for one process up to the most, with a value for each
 pub opened-exactly : (n given : ℕ) → (openVerdict n given ≡ Accepted) ↔ Opens n given
 opened-exactly n given = (λ a. opens-right n given (accepted-is (openVerdict n given) a), right-opens n given)
 
@@ -105,11 +105,11 @@ stages-table n v es p =
 
 -- ---- the limits
 pub record InLimits (n : ℕ) (c : Control) : Type 0 where
-  -- the lead is at most 8, and so, either way round, from -8 to 8
+  -- the lead is at most the window, of either of two processes over the other
   pub lead : (p q : ℕ) → p < n → q < n → c .site p .round ≤ c .site q .round + window
-  -- and below 8 over those sent to this round: the refusals 3 and 4 never both apply
+  -- and less over those sent to this round: the refusals 3 and 4 never both apply
   pub spoken : (p q : ℕ) → p < n → q < n → has (c .site p .sent) q ≡ true → c .site p .round < c .site q .round + window
-  -- what is in transit to p is for its own round or the seven after it
+  -- what is in transit to p is for its own round or a later one of the window
   pub near : (p r q : ℕ) → has (c .transit p r) q ≡ true → (c .site p .round ≤ r) × (r < c .site p .round + window)
   pub rounds : (p : ℕ) → (1 ≤ c .site p .round) × (c .site p .round ≤ lastRound)
   pub events : c .events ≤ mostEvents
@@ -169,8 +169,8 @@ pub heard-exactly : (n : ℕ) (v : ℕ → ℕ) (es : List Event) (p q : ℕ)
     → (has (ran n v es .control .site p .heard) q ≡ true) ↔ SinceStep p (Receive p q) (deeds (openControl n) es)
 heard-exactly = heard-since
 
--- q's message for round r is in transit to p exactly when q, at round r, sent it with a lead of 0 to 7, and since then p has neither received it nor
--- stepped beyond r
+-- q's message for round r is in transit to p exactly when q, at round r, sent it with a lead within the window, and since then p has neither received
+-- it nor stepped beyond r
 pub transit-exactly : (n : ℕ) (v : ℕ → ℕ) (es : List Event) (p r q : ℕ)
     → (has (ran n v es .control .transit p r) q ≡ true) ↔ Underway n v (deeds (openControl n) es) p r q
 transit-exactly = transit-since

@@ -27,7 +27,7 @@ pub record Posts (c d : Config) (p q : ℕ) : Type 0 where
   -- q joins the sent set of p; all else of every site stays
   pub sender : let me = c .control .site p in
       Moves (c .control) (d .control) p (record { round = me .round; sent = with (me .sent) q; heard = me .heard; reach = me .reach })
-  -- with a lead of 0 to 7 the message is in transit for the sender's round, and carries the value, vote and reach that the sender has
+  -- with a lead within the window the message is in transit for the sender's round, and carries the value, vote and reach that the sender has
   pub kept : let r = c .control .site p .round in c .control .site q .round ≤ r → r < c .control .site q .round + window
       → (d .control .transit q r ≡ with (c .control .transit q r) p)
       × (d .content .mail q r p ≡ message (c .content .holding p))

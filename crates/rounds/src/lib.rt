@@ -31,7 +31,7 @@ pub enum Verdict {
     NoProcess,
     // 3: sent to that process already this round.
     AlreadySent,
-    // 4: the sender's lead is 8.
+    // 4: the sender's lead is the whole window.
     TooFarAhead,
     // 5: no such message in transit.
     NothingInTransit,
