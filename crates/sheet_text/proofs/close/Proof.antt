@@ -29,6 +29,14 @@ Inv-loop run number from out₀ n k₀ written₀ out k written = Shut (Pieces.c
 abbrev μ-loop : tie.MeasureT-loop
 μ-loop run number from out₀ n k₀ written₀ out k written = n + n + 1 - k
 
+-- where a turn begins, from its end
+abbrev begun : tie.After-slice-known2 Inv-loop μ-loop → tie.At-loop Inv-loop μ-loop
+begun c = c .before .before .before .before .before .before
+
+-- where the number of lines is known, from there
+abbrev sized : tie.At-loop Inv-loop μ-loop → tie.After-size Inv-loop μ-loop
+sized c = c .before
+
 size-requires : tie.Need-size-requires Inv-loop μ-loop
 size-requires c κs = search needs
 
@@ -64,15 +72,18 @@ put-closing-requires c κs = omega arith
 
 add-k : tie.Need-add-k Inv-loop μ-loop
 add-k c =
-    let most = people-most (c .before .before .before .before .before .before .before .before .before .args .run .now) in
-    let n = c .before .before .before .before .before .before .before .size .ensures .0 in
+    let s = sized (begun c) in
+    let most = people-most (s .before .before .args .run .now) in
+    let n = s .size .ensures .0 in
     omega arith
 
 loop-less : tie.Need-loop-less Inv-loop μ-loop
 loop-less c = omega arith
 
 loop-again : tie.Need-loop-again Inv-loop μ-loop
-loop-again c = line-on (c .before .before .before .before .before .before .loop .inv) (next _ _ _ (c .before .before .before .before .before .before .before .size .ensures .0) (omega arith)) (c .before .before .before .before .if1 .left) (c .before .before .put-closing .ensures)
+loop-again c =
+    line-on (begun c .loop .inv) (next _ _ _ (sized (begun c) .size .ensures .0) (omega arith)) (c .before .before .before .before .if1 .left)
+    (c .before .before .put-closing .ensures)
 
 same-length-2 : tie.Need-same-length-2 Inv-loop μ-loop
 same-length-2 c = wrote-length (c .before .loop .inv .wrote)

@@ -16,6 +16,35 @@ Inv-loop run₀ bytes last out₀ used₀ written₀ here₀ run out used writte
 abbrev μ-loop : tie.MeasureT-loop
 μ-loop run₀ bytes last out₀ used₀ written₀ here₀ run out used written here = length bytes - used
 
+-- the places that the answers speak of, each from one behind it: where there is room for a line, and where the turn begins, from the sends and
+-- receives; these from the record; and the record from the end of the turn and from the returns
+abbrev roomy : tie.After-hasten Inv-loop μ-loop → tie.Else1 Inv-loop μ-loop
+roomy c = c .before .before .before
+
+abbrev begun : tie.After-hasten Inv-loop μ-loop → tie.At-loop Inv-loop μ-loop
+begun c = roomy c .before
+
+abbrev hasty : tie.After-one-record Inv-loop μ-loop → tie.After-hasten Inv-loop μ-loop
+hasty c = c .before .before .before
+
+abbrev told : tie.After-slice-known2 Inv-loop μ-loop → tie.After-t Inv-loop μ-loop
+told c = c .before .before .before .before .before
+
+abbrev record-of : tie.After-t Inv-loop μ-loop → tie.After-one-record Inv-loop μ-loop
+record-of c = c .before .before
+
+abbrev more : tie.After-enum-told Inv-loop μ-loop → tie.After-one-record Inv-loop μ-loop
+more c = c .before .before
+
+abbrev at-the-end : tie.After-number Inv-loop μ-loop → tie.After-enum-told Inv-loop μ-loop
+at-the-end c = c .before .before .before
+
+abbrev ended : tie.After-number2 Inv-loop μ-loop → tie.After-t2 Inv-loop μ-loop
+ended c = c .before .before
+
+abbrev entry : tie.At-loop Inv-loop μ-loop → tie.After-shared-slice-known Inv-loop μ-loop
+entry c = c .before .before
+
 loop-holds : tie.Need-loop-holds Inv-loop μ-loop
 loop-holds c = none-gone _ _ _ _ _
 
@@ -41,14 +70,15 @@ hasten-requires : tie.Need-hasten-requires Inv-loop μ-loop
 hasten-requires c κs = search needs
 
 add-used : tie.Need-add-used Inv-loop μ-loop
-add-used c = let now = hastened (c .before .before .before .before .loop .inv) (c .before .before .before .if1 .left) (c .hasten .ensures) in omega (arith, now .within)
+add-used c = let now = hastened (begun c .loop .inv) (roomy c .if1 .left) (c .hasten .ensures) in omega (arith, now .within)
 
 sub-one-record : tie.Need-sub-one-record Inv-loop μ-loop
-sub-one-record c = hastened (c .before .before .before .before .before .loop .inv) (c .before .before .before .before .if1 .left) (c .before .hasten .ensures) .within
+sub-one-record c = let h = c .before in hastened (begun h .loop .inv) (roomy h .if1 .left) (h .hasten .ensures) .within
 
 part-one-record-start : tie.Need-part-one-record-start Inv-loop μ-loop
 part-one-record-start c =
-    let now = hastened (c .before .before .before .before .before .loop .inv) (c .before .before .before .before .if1 .left) (c .before .hasten .ensures) in
+    let h = c .before in
+    let now = hastened (begun h .loop .inv) (roomy h .if1 .left) (h .hasten .ensures) in
     omega (arith, now .within)
 
 part-one-record-end : tie.Need-part-one-record-end Inv-loop μ-loop
@@ -59,14 +89,14 @@ one-record-requires c κs = search needs
 
 -- the turn of a record, behind the sends and receives before it
 turn : (c : tie.After-one-record Inv-loop μ-loop)
-    → let a = c .before .before .before .before .before .before .before .before .before .before .args in
-    let l = c .before .before .before .before .before .before .before .loop in
-    let h = c .before .before .before .hasten in
+    → let a = entry (begun (hasty c)) .before .args in
+    let l = begun (hasty c) .loop in
+    let h = hasty c .hasten in
     Turned (a .last) (Pieces.follow (a .last) (length (a .out .now)) 0 (a .place) (a .run .now) (a .bytes .now)) (a .out .now) (a .bytes .now)
     (l .here) (h .last .0) (c .one-record .last .0) (l .out) (l .used + h .result) (l .written) (c .one-record .result)
 turn c =
-    let wide = c .before .before .before .before .before .before .if1 .left in
-    took (hastened (c .before .before .before .before .before .before .before .loop .inv) wide (c .before .before .before .hasten .ensures)) wide (c .one-record .ensures .0)
+    let wide = roomy (hasty c) .if1 .left in
+    took (hastened (begun (hasty c) .loop .inv) wide (hasty c .hasten .ensures)) wide (c .one-record .ensures .0)
 
 enum-told : tie.Need-enum-told Inv-loop μ-loop
 enum-told c = search needs
@@ -78,17 +108,20 @@ number-requires : tie.Need-number-requires Inv-loop μ-loop
 number-requires c κs = search needs
 
 same-length-2 : tie.Need-same-length-2 Inv-loop μ-loop
-same-length-2 c = wrote-length (c .before .before .before .before .before .before .before .before .before .before .before .before .loop .inv .wrote)
+same-length-2 c = wrote-length (begun (hasty (more (at-the-end c))) .loop .inv .wrote)
 
 returns-2 : tie.Need-returns-2 Inv-loop μ-loop
-returns-2 c = last-came (turn (c .before .before .before .before .before)) (c .before .before .before .enum-told .given .1) (c .before .before .if2 .taken) (c .before .at-end .ensures) (c .number .ensures)
+returns-2 c =
+    let m = at-the-end c in
+    last-came (turn (more m)) (m .enum-told .given .1) (c .before .before .if2 .taken) (c .before .at-end .ensures) (c .number .ensures)
 
 same-length-3 : tie.Need-same-length-3 Inv-loop μ-loop
-same-length-3 c = wrote-length (c .before .before .before .before .before .before .before .before .before .before .loop .inv .wrote)
+same-length-3 c = wrote-length (begun (hasty (more (c .before))) .loop .inv .wrote)
 
 returns-3 : tie.Need-returns-3 Inv-loop μ-loop
 returns-3 c =
-    more-came (turn (c .before .before .before)) (λ i. omega (arith, c .before .before .before .before .before .before .before .before .before .before .before .before .shared-slice-known .given i)) (c .before .enum-told .given .1) (c .if2 .left)
+    let m = c .before in
+    more-came (turn (more m)) (λ i. omega (arith, entry (begun (hasty (more m))) .shared-slice-known .given i)) (m .enum-told .given .1) (c .if2 .left)
 
 enum-known-t : tie.Need-enum-known-t Inv-loop μ-loop
 enum-known-t c = search needs
@@ -98,16 +131,16 @@ put-told-requires c κs = omega arith
 
 add-used-2 : tie.Need-add-used-2 Inv-loop μ-loop
 add-used-2 c =
-    let far = goes-far (turn (c .before .before .before .before .before .before .before)) (c .before .before .before .before .before .t .given .1) in
+    let far = goes-far (turn (record-of (told c))) (told c .t .given .1) in
     omega arith
 
 loop-less : tie.Need-loop-less Inv-loop μ-loop
 loop-less c =
-    let far = goes-far (turn (c .before .before .before .before .before .before .before)) (c .before .before .before .before .before .t .given .1) in
+    let far = goes-far (turn (record-of (told c))) (told c .t .given .1) in
     omega arith
 
 loop-again : tie.Need-loop-again Inv-loop μ-loop
-loop-again c = goes-on (turn (c .before .before .before .before .before .before .before)) (c .before .before .before .before .before .t .given .1) (c .before .before .put-told .ensures)
+loop-again c = goes-on (turn (record-of (told c))) (told c .t .given .1) (c .before .before .put-told .ensures)
 
 enum-known-t-2 : tie.Need-enum-known-t-2 Inv-loop μ-loop
 enum-known-t-2 c = search needs
@@ -116,10 +149,10 @@ number-requires-2 : tie.Need-number-requires-2 Inv-loop μ-loop
 number-requires-2 c κs = search needs
 
 same-length-4 : tie.Need-same-length-4 Inv-loop μ-loop
-same-length-4 c = wrote-length (c .before .before .before .before .before .before .before .before .before .before .before .loop .inv .wrote)
+same-length-4 c = wrote-length (begun (hasty (ended c .before .before)) .loop .inv .wrote)
 
 returns-4 : tie.Need-returns-4 Inv-loop μ-loop
-returns-4 c = ends-came (turn (c .before .before .before .before)) (c .before .before .t2 .given .1) (c .number2 .ensures)
+returns-4 c = ends-came (turn (ended c .before .before)) (ended c .t2 .given .1) (c .number2 .ensures)
 
 pub follow-spec : {M : Type 1} → statement M
 follow-spec =

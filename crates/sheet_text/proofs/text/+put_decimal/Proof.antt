@@ -57,15 +57,21 @@ module _ (t : ℕ) where
 
   put-two-requires-2 : tie.Need-put-two-requires-2 calls at own.Post
   put-two-requires-2 c κs =
-      let c3 = c .before .before .before in
-      (omega arith, last-fits _ (omega arith) (c3 .before .before .before .before .before .pre .1) (c3 .put-decimal .ensures))
+      let head = c .before .before .before in
+      let long = head .before .before in
+      (omega arith, last-fits _ (omega arith) (long .before .before .before .pre .1) (head .put-decimal .ensures))
 
   same-length-3 : tie.Need-same-length-3 calls at own.Post
-  same-length-3 c = c .before .before .put-two2 .kept .0 ∙ c .before .before .before .before .before .before .put-decimal .kept .0
+  same-length-3 c =
+      let last = c .before .before in
+      let head = last .before .before .before .before in
+      last .put-two2 .kept .0 ∙ head .put-decimal .kept .0
 
   returns-3 : tie.Need-returns-3 calls at own.Post
   returns-3 c =
-      last-wrote _ (omega arith) (c .before .before .before .before .before .before .put-decimal .ensures) (c .before .before .put-two2 .ensures)
+      let last = c .before .before in
+      let head = last .before .before .before .before in
+      last-wrote _ (omega arith) (head .put-decimal .ensures) (last .put-two2 .ensures)
 
 pub +put-decimal-spec : {M : Type 1} → statement M
 +put-decimal-spec = close μ λ t. tie.spec (calls t)

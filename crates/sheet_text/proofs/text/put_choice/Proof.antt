@@ -26,7 +26,9 @@ enum-known-c c = search needs
 
 put-field-requires : tie.Need-put-field-requires
 unfolding choiceField
-put-field-requires c κs = rw (c .before .before .c .given .1) at (c .before .before .before .before .before .pre)
+put-field-requires c κs =
+    let chosen = c .before .before in
+    rw (chosen .c .given .1) at (chosen .before .before .before .pre)
 
 same-length : tie.Need-same-length
 same-length c = search needs
@@ -43,7 +45,10 @@ same-length-2 c = search needs
 
 returns-2 : tie.Need-returns-2
 unfolding choiceField
-returns-2 c = rw (c .before .before .before .before .before .c .given .1) (c .before .before .put-field .ensures)
+returns-2 c =
+    let written = c .before .before in
+    let chosen = written .before .before .before in
+    rw (chosen .c .given .1) (written .put-field .ensures)
 
 pub put-choice-spec : {M : Type 1} → statement M
 put-choice-spec =

@@ -11,7 +11,9 @@ put-byte-requires c κs = fits-first _ _ (c .before .before .pre)
 
 put-field-requires : tie.Need-put-field-requires
 unfolding wLine
-put-field-requires c κs = fits-first _ _ (fits-rest _ (c .before .before .before .before .before .before .pre) (c .before .before .before .put-byte .ensures))
+put-field-requires c κs =
+    let c3 = c .before .before .before in
+    fits-first _ _ (fits-rest _ (c3 .before .before .before .pre) (c3 .put-byte .ensures))
 
 put-field-requires-2 : tie.Need-put-field-requires-2
 unfolding wLine
