@@ -37,11 +37,18 @@ same-length c = search needs
 same-length-2 : tie.Need-same-length-2
 same-length-2 c = search needs
 
+-- where the input has been read, from where it is printed
+abbrev arrived : tie.After-print-all → tie.After-read-more
+arrived c = c .before .before .before .before .before .before
+
 returns : tie.Need-returns
 returns c =
-    let read = c .before .before .before .before .before .before .before .before .before .before .before .before .before .before .read-more in
-    let p = c .before .before .before .before .before .before .before .before .print-all in
-    kept-short (read .last .0) (p .result .used) (read .result) (c .before .before .keep .ensures .0) (p .ensures .1 (c .before .before .before .before .enum-told .given .1))
+    let kept = c .before .before in
+    let wants = kept .before .before in
+    let printed = wants .before .before .before .before in
+    let p = printed .print-all in
+    let read = arrived printed .read-more in
+    kept-short (read .last .0) (p .result .used) (read .result) (kept .keep .ensures .0) (p .ensures .1 (wants .enum-told .given .1))
 
 same-length-3 : tie.Need-same-length-3
 same-length-3 c = search needs

@@ -8,6 +8,13 @@ use borrow.Author.Needs.{needs}
 use Rattle.sheet.proofs.print.Statement.{statement}
 use Rattle.sheet.proofs.print.Tie as tie
 
+-- the piece, from where its text has been given to the system, and the entry from there
+abbrev piece : tie.After-write-all → tie.After-write
+piece c = c .before .before .before .before
+
+abbrev entry : tie.After-write → tie.Start
+entry c = c .before .before .before .before .before
+
 write-requires : tie.Need-write-requires
 write-requires c κs = search needs
 
@@ -27,7 +34,7 @@ same-length : tie.Need-same-length
 same-length c = search needs
 
 returns : tie.Need-returns
-returns c = printed _ _ _ (c .before .before .before .before .before .before .before .before .before .before .pre) (c .before .before .before .before .before .write .ensures)
+returns c = let p = piece (c .before) in printed _ _ _ (entry p .pre) (p .write .ensures)
 
 slice-aggregate-write-all-2 : tie.Need-slice-aggregate-write-all-2
 slice-aggregate-write-all-2 c = search needs
@@ -39,7 +46,9 @@ same-length-2 : tie.Need-same-length-2
 same-length-2 c = search needs
 
 returns-2 : tie.Need-returns-2
-returns-2 c = given-up (c .before .before .before .before .before .before .before .before .before .before .before .before .args .bytes .now) (c .before .before .before .before .before .before .before .write .result .used) _ _ (c .before .before .before .before .before .before .before .write .ensures .within)
+returns-2 c =
+    let p = piece (c .before .before .before) in
+    given-up (entry p .args .bytes .now) (p .write .result .used) _ _ (p .write .ensures .within)
 
 pub print-spec : {M : Type 1} → statement M
 print-spec =

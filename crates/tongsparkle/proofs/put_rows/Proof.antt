@@ -51,10 +51,13 @@ loop-less c = search needs
 
 loop-again : tie.Need-loop-again Inv-loop μ-loop
 loop-again c =
-    let l = c .before .before .before .before .before .before .loop in
-    let a = c .before .before .before .before .before .before .before .before .before .args in
-    let put = c .before .before .put-row .ensures in
-    let site = c .before .before .before .site .ensures .0 in
+    let written = c .before .before in
+    let known = written .before in
+    let begun = known .before .before .before in
+    let l = begun .loop in
+    let a = begun .before .before .before .args in
+    let put = written .put-row .ensures in
+    let site = known .site .ensures .0 in
     (omega arith, l .inv .1, put ∙ rw (l .inv .2, site) (next-row (a .report .now) (l .p) (standingOf (a .run .now))))
 
 same-length : tie.Need-same-length Inv-loop μ-loop

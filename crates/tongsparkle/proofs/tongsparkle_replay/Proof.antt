@@ -23,12 +23,12 @@ same-length c = search needs
 
 returns-2 : tie.Need-returns-2
 returns-2 c =
-    let c6 = c .before .before .before .before .before .before in
-    let c8 = c6 .before .before in
-    let a = c8 .before .before .before .args in
-    let replayed = c6 .replay .ensures in
-    room-enough (a .trace .now) (a .report .now) (c8 .if1 .left) (replayed .1) (replayed .0 .0) (c .number .ensures)
-    (c .before .before .before .put-rows .ensures)
+    let written = c .before .before .before in
+    let read = written .before .before .before in
+    let roomy = read .before .before in
+    let a = roomy .before .before .before .args in
+    let replayed = read .replay .ensures in
+    room-enough (a .trace .now) (a .report .now) (roomy .if1 .left) (replayed .1) (replayed .0 .0) (c .number .ensures) (written .put-rows .ensures)
 
 pub tongsparkle-replay-spec : {M : Type 1} → statement M
 tongsparkle-replay-spec =

@@ -12,8 +12,18 @@ returns c = let a = c .before .before .args in too-few (a .run .now) (a .bytes .
 head-requires : tie.Need-head-requires
 head-requires c κs = search needs
 
+-- the places, each from one behind it: the entry, from where the number is read; and that place, from where a send or a receive is done
+abbrev entry : tie.After-head → tie.Start
+entry c = c .before .before .before
+
+abbrev is-send : tie.After-send → tie.Then2
+is-send c = c .before .before .before .before
+
+abbrev is-receive : tie.After-receive → tie.Then3
+is-receive c = c .before .before .before .before
+
 -- what is known of the number that was read
-numbered : (c : tie.After-head) → Numbered (c .before .before .before .args .bytes .now) (c .head .result)
+numbered : (c : tie.After-head) → Numbered (entry c .args .bytes .now) (c .head .result)
 numbered c =
     record {
       long = c .before .if1 .left;
@@ -35,7 +45,9 @@ number-requires c κs = search needs
 
 returns-2 : tie.Need-returns-2
 returns-2 c =
-    found-send (c .before .before .before .before .before .before .before .before .before .args .run .now) (numbered (c .before .before .before .before .before .before)) (c .before .before .before .before .before .if2 .taken) (c .before .send .ensures .0) (c .number .ensures)
+    let s = is-send (c .before) in
+    let h = s .before in
+    found-send (entry h .args .run .now) (numbered h) (s .if2 .taken) (c .before .send .ensures .0) (c .number .ensures)
 
 shared-slice-read-receive : tie.Need-shared-slice-read-receive
 shared-slice-read-receive c = search needs
@@ -51,11 +63,13 @@ number-requires-2 c κs = search needs
 
 returns-3 : tie.Need-returns-3
 returns-3 c =
-    found-receive (c .before .before .before .before .before .before .before .before .before .before .args .run .now) (numbered (c .before .before .before .before .before .before .before)) (c .before .before .before .before .before .before .if2 .left) (c .before .before .before .before .before .if3 .taken)
-    (c .before .receive .ensures .0) (c .number2 .ensures)
+    let r = is-receive (c .before) in
+    let no-send = r .before in
+    let h = no-send .before in
+    found-receive (entry h .args .run .now) (numbered h) (no-send .if2 .left) (r .if3 .taken) (c .before .receive .ensures .0) (c .number2 .ensures)
 
 returns-4 : tie.Need-returns-4
-returns-4 c = found-none (c .before .before .before .before .before .args .run .now) (numbered (c .before .before)) (c .before .if2 .left) (c .if3 .left)
+returns-4 c = let h = c .before .before in found-none (entry h .args .run .now) (numbered h) (c .before .if2 .left) (c .if3 .left)
 
 pub hasten-one-spec : {M : Type 1} → statement M
 hasten-one-spec =

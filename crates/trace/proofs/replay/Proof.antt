@@ -22,6 +22,17 @@ clear-requires c κs = search needs
 loop-holds : tie.Need-loop-holds Inv-loop μ-loop
 loop-holds c = record { within = omega arith; ahead-of = rw (c .clear .ensures .0) }
 
+-- the places, each from one behind it: where a turn begins, from the sends and receives; these, from the record; and the entry, from where a turn
+-- begins
+abbrev begun : tie.After-hasten Inv-loop μ-loop → tie.At-loop Inv-loop μ-loop
+begun c = c .before .before .before
+
+abbrev hasty : tie.After-one-record Inv-loop μ-loop → tie.After-hasten Inv-loop μ-loop
+hasty c = c .before .before .before
+
+abbrev entry : tie.At-loop Inv-loop μ-loop → tie.Start Inv-loop μ-loop
+entry c = c .before .before .before .before
+
 sub-hasten : tie.Need-sub-hasten Inv-loop μ-loop
 sub-hasten c = search needs
 
@@ -35,13 +46,13 @@ hasten-requires : tie.Need-hasten-requires Inv-loop μ-loop
 hasten-requires c κs = search needs
 
 add-at : tie.Need-add-at Inv-loop μ-loop
-add-at c = let now = hastened (c .before .before .before .loop .inv) (c .hasten .ensures) in omega (arith, now .within)
+add-at c = let now = hastened (begun c .loop .inv) (c .hasten .ensures) in omega (arith, now .within)
 
 sub-one-record : tie.Need-sub-one-record Inv-loop μ-loop
-sub-one-record c = hastened (c .before .before .before .before .loop .inv) (c .before .hasten .ensures) .within
+sub-one-record c = hastened (begun (c .before) .loop .inv) (c .before .hasten .ensures) .within
 
 part-one-record-start : tie.Need-part-one-record-start Inv-loop μ-loop
-part-one-record-start c = let now = hastened (c .before .before .before .before .loop .inv) (c .before .hasten .ensures) in omega (arith, now .within)
+part-one-record-start c = let now = hastened (begun (c .before) .loop .inv) (c .before .hasten .ensures) in omega (arith, now .within)
 
 part-one-record-end : tie.Need-part-one-record-end Inv-loop μ-loop
 part-one-record-end c = search needs
@@ -51,10 +62,10 @@ one-record-requires c κs = search needs
 
 -- the turn of a record, behind the sends and receives before it
 turn : (c : tie.After-one-record Inv-loop μ-loop)
-    → let l = c .before .before .before .before .before .before .loop in
-    let h = c .before .before .before .hasten in
-    Taken (c .before .before .before .before .before .before .before .before .before .before .args .trace .now) (l .place) (h .last .0) (c .one-record .last .0) (l .at + h .result) (c .one-record .result)
-turn c = taken (hastened (c .before .before .before .before .before .before .loop .inv) (c .before .before .before .hasten .ensures)) (c .one-record .ensures .0)
+    → let l = begun (hasty c) .loop in
+    let h = hasty c .hasten in
+    Taken (entry (begun (hasty c)) .args .trace .now) (l .place) (h .last .0) (c .one-record .last .0) (l .at + h .result) (c .one-record .result)
+turn c = taken (hastened (begun (hasty c) .loop .inv) (hasty c .hasten .ensures)) (c .one-record .ensures .0)
 
 enum-told : tie.Need-enum-told Inv-loop μ-loop
 enum-told c = search needs

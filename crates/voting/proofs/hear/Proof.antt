@@ -34,10 +34,10 @@ returns c =
 returns-2 : tie.Need-returns-2
 unfolding hear hearBoth
 returns-2 c =
-    let start = c .before .before .before .before .before .before .before in
-    let first = c .before .before .before .before .before .before in
-    let second = c .before .before .before .before .before in
     let told = c .before .before .before in
+    let second = told .before .before in
+    let first = second .before in
+    let start = first .before in
     hear-meaning
     (start .args .m)
     (rw (first .lesser .ensures, second .still .ensures, c .before .lesser2 .ensures, c .still2 .ensures, told .vote .given .1))
