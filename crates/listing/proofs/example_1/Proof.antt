@@ -72,16 +72,18 @@ site-requires-2 c κs = search needs
 returns : tie.Need-returns
 unfolding run standing openVerdict night
 returns c =
-    let c6 = c .before .before .before .before .before .before in
-    let c9 = c6 .before .before .before in
+    let counted = c .before .before .before .before in
+    let replayed = counted .before .before in
+    let last = replayed .before .before .before in
+    let third = last .before .before .before in
     let same =
-    six-are (c9 .before .before .before .before .before .send .ensures) (c9 .before .before .before .before .send2 .ensures)
-    (c9 .before .before .before .receive .ensures) (c9 .before .before .send3 .ensures) (c9 .before .receive2 .ensures) (c9 .step .ensures) in
-    let promise = c6 .replay-six .ensures in
+    six-are (third .before .before .send .ensures) (third .before .send2 .ensures)
+    (third .receive .ensures) (last .before .before .send3 .ensures) (last .before .receive2 .ensures) (last .step .ensures) in
+    let promise = replayed .replay-six .ensures in
     let shows = shows-ended same (promise .2) in
     rw (
       number-ended same (promise .0),
-      c .before .before .before .before .events .ensures .1 ended shows,
+      counted .events .ensures .1 ended shows,
       c .before .before .site .ensures .1 ended shows (lit< tt),
       c .site2 .ensures .1 ended shows (lit< tt),
     )

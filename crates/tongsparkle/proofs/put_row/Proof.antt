@@ -43,12 +43,13 @@ same-length c = search needs
 
 returns : tie.Need-returns
 returns c =
-    let c6 = c .before .before .before .before .before .before in
+    let c2 = c .before .before in
+    let c6 = c2 .before .before .before .before in
     let c10 = c6 .before .before .before .before in
     let c14 = c10 .before .before .before .before in
     let c18 = c14 .before .before .before .before in
     let c22 = c18 .before .before .before .before in
-    rw (c .before .before .put-word6 .ensures, c6 .put-word5 .ensures, c10 .put-word4 .ensures, c14 .put-word3 .ensures, c18 .put-word2 .ensures, c22 .put-word .ensures)
+    rw (c2 .put-word6 .ensures, c6 .put-word5 .ensures, c10 .put-word4 .ensures, c14 .put-word3 .ensures, c18 .put-word2 .ensures, c22 .put-word .ensures)
     (six-words _ _ _)
 
 pub put-row-spec : {M : Type 1} → statement M

@@ -46,10 +46,11 @@ same-length c = search needs
 returns : tie.Need-returns
 unfolding word
 returns c =
-    let c6 = c .before .before .before .before .before .before in
+    let c2 = c .before .before in
+    let c6 = c2 .before .before .before .before in
     let c10 = c6 .before .before .before .before in
     let c14 = c10 .before .before .before .before in
-    rw (c .before .before .put4 .ensures, c6 .put3 .ensures, c10 .put2 .ensures, c14 .put .ensures)
+    rw (c2 .put4 .ensures, c6 .put3 .ensures, c10 .put2 .ensures, c14 .put .ensures)
     (let a = c14 .before .before .before .args in four-sets (a .report .now) (a .at) (a .x / 16777216) (a .x / 65536 % 256) (a .x / 256 % 256) (a .x % 256))
 
 pub put-word-spec : {M : Type 1} → statement M

@@ -23,8 +23,9 @@ set-head-requires c κs = search needs
 
 place-all-requires : tie.Need-place-all-requires
 place-all-requires c κs =
-    let c5 = c .before .before .before .before .before in
-    opening-told _ _ (answered (c5 .before .before .judge-opening .ensures) (c5 .before .accepted .ensures) (c5 .if1 .taken))
+    let cleared = c .before .before .before in
+    let opens = cleared .before .before in
+    opening-told _ _ (answered (opens .before .before .judge-opening .ensures) (opens .before .accepted .ensures) (opens .if1 .taken))
 
 returns : tie.Need-returns
 unfolding begins opened ifAccepted

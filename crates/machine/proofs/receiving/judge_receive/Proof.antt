@@ -50,17 +50,17 @@ has-requires c κs = search needs
 
 -- after the first tests, what is in transit decides
 by-transit : (c : tie.After-has)
-    → (let a = c .before .before .before .before .before .before .before .before .args in verdict (controlOf (a .run .now)) (Receive (a .p) (a .q)))
+    → (let counted = c .before .before .before .before in let a = counted .before .before .before .before .args in verdict (controlOf (a .run .now)) (Receive (a .p) (a .q)))
     ≡ refuse (not (c .has .result)) NothingInTransit Accepted
 unfolding verdict receiveVerdict outside crowded refuse controlOf siteOf
 by-transit c =
-    let c4 = c .before .before .before .before in
+    let counted = c .before .before .before .before in
     rw (
-      ← c4 .before .before .before .people .ensures .0,
-      lt-leb _ _ (c4 .before .before .if1 .left),
-      lt-leb _ _ (c4 .before .if2 .left),
-      ← c4 .head .ensures,
-      le-ltb mostEvents (c4 .head .result + 1) (omega arith),
+      ← counted .before .before .before .people .ensures .0,
+      lt-leb _ _ (counted .before .before .if1 .left),
+      lt-leb _ _ (counted .before .if2 .left),
+      ← counted .head .ensures,
+      le-ltb mostEvents (counted .head .result + 1) (omega arith),
       ← c .before .before .line .ensures,
       ← c .before .transit .ensures,
       ← c .has .ensures,

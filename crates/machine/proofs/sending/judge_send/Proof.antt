@@ -41,13 +41,15 @@ judge-target-requires c κs = search needs
 returns-4 : tie.Need-returns-4
 unfolding verdict outside crowded refuse controlOf
 returns-4 c =
+    let counted = c .before .before in
+    let both-known = counted .before in
     rw (
       c .judge-target .ensures,
-      ← c .before .before .before .before .before .people .ensures .0,
-      lt-leb _ _ (c .before .before .before .before .if1 .left),
-      lt-leb _ _ (c .before .before .before .if2 .left),
-      ← c .before .before .head .ensures,
-      le-ltb mostEvents (c .before .before .head .result + 1) (omega arith),
+      ← both-known .before .before .people .ensures .0,
+      lt-leb _ _ (both-known .before .if1 .left),
+      lt-leb _ _ (both-known .if2 .left),
+      ← counted .head .ensures,
+      le-ltb mostEvents (counted .head .result + 1) (omega arith),
     )
 
 pub judge-send-spec : {M : Type 1} → statement M

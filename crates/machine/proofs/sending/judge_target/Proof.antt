@@ -57,15 +57,15 @@ fate-requires c κs = search needs
 
 -- after the first test the fate of the message decides
 by-fate : (c : tie.After-fate) (f : Fate) → c .fate .result ≡ f
-    → (let a = c .before .before .before .before .before .before .args in sendVerdict (controlOf (a .run .now)) (a .p) (a .q))
+    → (let unsent = c .before .before .before in let a = unsent .before .before .before .args in sendVerdict (controlOf (a .run .now)) (a .p) (a .q))
     ≡ refuse (refused f) TooFarAhead Accepted
 unfolding sendVerdict refuse controlOf siteOf
 by-fate c f e =
-    let c3 = c .before .before .before in
+    let unsent = c .before .before .before in
     rw (
-      ← c3 .before .before .line .ensures,
-      ← c3 .before .has .ensures,
-      c3 .if1 .left,
+      ← unsent .before .before .line .ensures,
+      ← unsent .before .has .ensures,
+      unsent .if1 .left,
       ← c .before .before .line2 .ensures,
       ← c .before .line3 .ensures,
       ahead-fate _ _ _ (c .fate .ensures),

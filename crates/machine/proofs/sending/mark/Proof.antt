@@ -18,12 +18,9 @@ set-line-requires c κs = search needs
 returns : tie.Need-returns
 unfolding marked
 returns c =
-    rw (
-      c .set-line .ensures,
-      c .before .before .with .ensures,
-      with-room _ (c .before .before .before .before .before .args .q) (c .before .before .before .before .before .pre),
-      c .before .before .before .line .ensures,
-    )
+    let read = c .before .before .before in
+    let entry = read .before .before in
+    rw (c .set-line .ensures, c .before .before .with .ensures, with-room _ (entry .args .q) (entry .pre), read .line .ensures)
 
 pub mark-spec : {M : Type 1} → statement M
 mark-spec = tie.close (tie.spec line-requires with-requires set-line-requires returns)

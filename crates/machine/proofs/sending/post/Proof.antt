@@ -47,7 +47,8 @@ unfolding posted
 returns c =
     let c4 = c .before .before .before .before in
     let c8 = c4 .before .before .before .before in
-    let c13 = c8 .before .before .before .before .before in
+    let c11 = c8 .before .before .before in
+    let c13 = c11 .before .before in
     let c17 = c13 .before .before .before .before in
     let c21 = c17 .before .before .before .before in
     rw (
@@ -58,7 +59,7 @@ returns c =
       c8 .set-transit .ensures,
       c8 .before .before .with .ensures,
       with-room _ (c21 .before .before .args .p) (c21 .before .before .pre),
-      c8 .before .before .before .transit .ensures,
+      c11 .transit .ensures,
       c13 .line5 .ensures,
       c13 .before .before .line4 .ensures,
       c17 .line3 .ensures,

@@ -60,8 +60,8 @@ line-requires-3 c κs = search needs
 
 -- after the first two tests, who was heard decides
 by-heard : (c : tie.After-line3)
-    → (let a = c .before .before .before .before .before .before .before .before .args in stage (controlOf (a .run .now)) (a .p))
-    ≡ cond (not (eqb (c .line3 .result) (c .before .before .before .before .before .before .everyone .result))) Pending Idle
+    → (let all = c .before .before .before .before .before .before in let a = all .before .before .args in
+    stage (controlOf (a .run .now)) (a .p) ≡ cond (not (eqb (c .line3 .result) (all .everyone .result))) Pending Idle)
 unfolding controlOf siteOf stage sentToAll waited heardFromAll
 by-heard c =
     let c4 = c .before .before .before .before in

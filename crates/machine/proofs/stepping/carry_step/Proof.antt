@@ -32,19 +32,21 @@ advance-requires c κs = search needs
 returns : tie.Need-returns
 unfolding stepped
 returns c =
-    let c4 = c .before .before .before .before in
-    let c10 = c4 .before .before .before .before .before .before in
-    let c15 = c10 .before .before .before .before .before in
-    let heard = messagesBelow (c10 .before .people .result) (c15 .args .run .now) (c15 .args .p) in
+    let begun = c .before .before .before .before in
+    let holds = begun .before .before .before in
+    let listened = holds .before .before .before in
+    let read = listened .before .before .before in
+    let entry = read .before .before in
+    let heard = messagesBelow (listened .before .people .result) (entry .args .run .now) (entry .args .p) in
     rw (
       c .advance .ensures,
       c .before .before .hold .ensures,
-      c4 .begin-event .ensures,
-      c4 .before .before .rule .ensures .1 heard (c10 .listen .ensures .0),
-      c4 .before .before .before .holding .ensures,
-      c10 .listen .ensures .1,
-      c10 .before .people .ensures .0,
-      c10 .before .before .before .line .ensures,
+      begun .begin-event .ensures,
+      begun .before .before .rule .ensures .1 heard (listened .listen .ensures .0),
+      holds .holding .ensures,
+      listened .listen .ensures .1,
+      listened .before .people .ensures .0,
+      read .line .ensures,
     )
 
 pub carry-step-spec : {M : Type 1} → statement M

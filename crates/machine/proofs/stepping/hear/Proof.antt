@@ -38,11 +38,12 @@ union-requires c κs = search needs
 returns : tie.Need-returns
 unfolding carriedOf
 returns c =
-    let c5 = c .before .before .before .before .before in
-    let c9 = c5 .before .before .before .before in
-    let heard = told (c9 .args .q) (c5 .before .before .before .line .ensures) (c5 .before .before .has .ensures) (c5 .before .if1 .taken) in (
-      rw (tally-heard _ _ _ heard, ← c9 .pre .0, c .before .before .hear .ensures .0, c .before .before .before .message .ensures, c5 .line2 .ensures),
-      rw (reach-heard _ _ _ heard, ← c9 .pre .1, c .union .ensures, c .before .letter .ensures, c5 .line2 .ensures),
+    let taken = c .before .before .before in
+    let round = taken .before .before in
+    let entry = round .before .before .before .before in
+    let heard = told (entry .args .q) (round .before .before .before .line .ensures) (round .before .before .has .ensures) (round .before .if1 .taken) in (
+      rw (tally-heard _ _ _ heard, ← entry .pre .0, c .before .before .hear .ensures .0, taken .message .ensures, round .line2 .ensures),
+      rw (reach-heard _ _ _ heard, ← entry .pre .1, c .union .ensures, c .before .letter .ensures, round .line2 .ensures),
     )
 
 returns-2 : tie.Need-returns-2

@@ -36,14 +36,15 @@ returns : tie.Need-returns
 unfolding held
 returns c =
     let c4 = c .before .before .before .before in
-    let c9 = c4 .before .before .before .before .before in
+    let c7 = c4 .before .before .before in
+    let c9 = c7 .before .before in
     rw (
       c .set-line5 .ensures,
       c .before .word-of2 .ensures,
       c .before .before .before .set-line4 .ensures,
       c4 .flag-of2 .ensures,
       c4 .before .before .set-line3 .ensures,
-      c4 .before .before .before .word-of .ensures,
+      c7 .word-of .ensures,
       c9 .set-line2 .ensures,
       c9 .before .flag-of .ensures,
       c9 .before .before .before .set-line .ensures,

@@ -60,17 +60,19 @@ line-requires-2 c κs = search needs
 
 -- after the first tests, the round decides
 by-round : (c : tie.After-line2)
-    → (let a = c .before .before .before .before .before .before .before .before .args in verdict (controlOf (a .run .now)) (Step (a .p)))
+    → (let sent = c .before .before .before in let counted = sent .before .before in let a = counted .before .before .before .args in
+    verdict (controlOf (a .run .now)) (Step (a .p)))
     ≡ refuse (eqb (c .line2 .result) lastRound) LastRound Accepted
 unfolding verdict stepVerdict sentToAll outside crowded refuse controlOf siteOf
 by-round c =
-    let c5 = c .before .before .before .before .before in
+    let sent = c .before .before .before in
+    let counted = sent .before .before in
     rw (
-      ← c5 .before .before .people .ensures .0,
-      lt-leb _ _ (c5 .before .if1 .left),
-      ← c5 .head .ensures,
-      le-ltb mostEvents (c5 .head .result + 1) (omega arith),
-      ← c .before .before .before .line .ensures,
+      ← counted .before .before .people .ensures .0,
+      lt-leb _ _ (counted .before .if1 .left),
+      ← counted .head .ensures,
+      le-ltb mostEvents (counted .head .result + 1) (omega arith),
+      ← sent .line .ensures,
       ← c .before .before .everyone .ensures,
       eq-eqb _ _ (c .before .if3 .left),
       ← c .line2 .ensures,
