@@ -6,6 +6,7 @@
 --     calls            a call whose first parameter is given up for good: what says its last value comes back
 -- Both calls take what they hand over from the head of the context, k tokens and what is owned of l parameters. The callee's contract says `Said` of
 -- the number and of the last value of its first parameter, and nothing of the others; all that is known of the callee is that it meets its contract.
+-- A `&mut [T]` that is lent again, a `requires` and a result that is no number are not covered: such a call needs a step of its own beside these.
 -- Assumes `Given`.
 use mathlib.Core.Path.{_≡_, refl, sym, ap, subst}
 use Prim.Native.Nat.{ℕ, zero, suc, _<_, _^_}

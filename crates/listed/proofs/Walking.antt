@@ -12,7 +12,8 @@
 --   5. A loop has a `State`, `begun`, what the first locals hold where a turn begins, and `At`, all entries there; a turn is a walk of its own, and
 --      ends in `clears` and `again`.
 --   6. `meets` is the walk at all lifetimes, shares and arguments.
--- So an added local changes `begun`, if it holds something where a turn begins, and nothing otherwise.
+-- So an added local costs the lines of its own statements, and an entry of `begun` if it holds something where a turn begins. A statement before a
+-- loop moves `rest`, the code behind it, and a local before an array that is lent moves `array`.
 use Prim.Native.Nat.{ℕ, _<_, _^_}
 use mathlib.Core.Path.{_≡_}
 use mathlib.Core.Bool.{Bool, true, false, not}
