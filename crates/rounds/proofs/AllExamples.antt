@@ -5,7 +5,7 @@ use mathlib.Core.Bool.{true}
 use mathlib.Core.List.{_++_}
 use Rattle.rounds.specs.Examples.{every, run, numbers, steps, starred, ours}
 use Rattle.rounds.specs.Examples.{example1, example2, example3, example4, example5, example6, example7, example8, example9}
-use Rattle.rounds.specs.Examples.{carriedReach, carriedValue, ownMessage, lateMessage, earlyMessage, silentEven, heardEveryone, halfBroadcast, refusalOrder, atTheLimits}
+use Rattle.rounds.specs.Examples.{carriedReach, carriedValue, ownMessage, lateMessage, earlyMessage, silentEven, heardEveryone, halfBroadcast, refusalOrder, openingValues, atTheLimits}
 
 -- ---- the starred examples
 pub example-1 : example1 ≡ true
@@ -81,6 +81,10 @@ pub refusal-order : refusalOrder ≡ true
 unfolding run refusalOrder
 refusal-order = refl
 
+pub opening-values : openingValues ≡ true
+unfolding openingValues
+opening-values = refl
+
 pub at-the-limits : atTheLimits ≡ true
 unfolding run atTheLimits
 at-the-limits = refl
@@ -108,5 +112,6 @@ examples-hold =
       heard-everyone,
       half-broadcast,
       refusal-order,
+      opening-values,
       at-the-limits,
     )

@@ -16,7 +16,7 @@ use Rattle.rounds.specs.declared.Verdict.{Verdict}
 use Rattle.rounds.specs.Limits.{window, lastRound, mostEvents}
 use Rattle.rounds.specs.Config.{Control, Config, at, at₂, at₃, openControl, openContent, opening}
 use Rattle.rounds.specs.Stages.{sentToAll, heardFromAll, waited, stage, index, one, tick}
-use Rattle.rounds.specs.Verdicts.{numberOf, accepted, refuse, outside, crowded, ahead, sendVerdict, receiveVerdict, stepVerdict, firstRefusal, verdict, number}
+use Rattle.rounds.specs.Verdicts.{openVerdict, numberOf, accepted, refuse, outside, crowded, ahead, sendVerdict, receiveVerdict, stepVerdict, firstRefusal, verdict, number}
 use Rattle.rounds.specs.Events.{timely, sendControl, sendContent, receiveControl, gathered, messages, heardBy, from, stepControl, stepContent, sendsControl, sendsContent, nextControl, nextContent, ifAccepted, applyControl, applyContent, apply}
 use Rattle.rounds.specs.Runs.{after, verdicts, Report, reportOf, told, reports, replay, replayVerdict, valueAt}
 
@@ -252,6 +252,13 @@ refusalOrder =
     && eqb (number (c .control) (Send 0 0)) 3 && eqb (number (c .control) (Send 0 1)) 4 && eqb (number (c .control) (Broadcast 0)) 3
     && eqb (number (c .control) (Step 1)) 6
 
+-- an opening with values that are not N in number, and 1 before 11
+unfoldable pub openingValues : Bool
+unfolding numberOf refuse openVerdict
+openingValues =
+    eqb (numberOf (openVerdict 2 2)) 0 && eqb (numberOf (openVerdict 2 1)) 11 && eqb (numberOf (openVerdict 2 3)) 11
+    && eqb (numberOf (openVerdict 0 1)) 1
+
 -- at the limits: these many events accepted, or everyone at this round, and process 0 has sent to these
 abbrev pub limitsAt : ℕ → ℕ → ℕ → Control
 limitsAt events round sent =
@@ -282,5 +289,5 @@ starred = example1 ∷ example2 ∷ example3 ∷ example4 ∷ example5 ∷ examp
 
 unfoldable pub ours : List Bool
 ours =
-    carriedReach ∷ carriedValue ∷ ownMessage ∷ lateMessage ∷ earlyMessage ∷ silentEven ∷ heardEveryone ∷ halfBroadcast ∷ refusalOrder ∷ atTheLimits
-    ∷ []
+    carriedReach ∷ carriedValue ∷ ownMessage ∷ lateMessage ∷ earlyMessage ∷ silentEven ∷ heardEveryone ∷ halfBroadcast ∷ refusalOrder
+    ∷ openingValues ∷ atTheLimits ∷ []

@@ -44,9 +44,11 @@ says e a = numberOf (verdictOf a) ∷ lines (reported e a)
 abbrev pub said : Control → Event → List ℕ
 said c e = numberOf (verdict c e) ∷ lines (ifAccepted (verdict c e) (told c e) [])
 
--- event by event the same answers, and at the end the same figures of every process; of one more, none
+-- event by event the same answers, and at the end as many events and the same figures of every process; of one more, none
 unfoldable pub agreeing : Mem → Config → List Event → Bool
-agreeing m c [] = alike (c .control .size) m c && equal (figures (standingOf m (c .control .size))) (figures nobody)
+agreeing m c [] =
+    eqb (controlOf m .events) (c .control .events)
+    && alike (c .control .size) m c && equal (figures (standingOf m (c .control .size))) (figures nobody)
 agreeing m c (e ∷ es) = equal (says e (answer (controlOf m) e)) (said (c .control) e) && agreeing (applied m e) (apply c e) es
 
 -- the run of these events from these values
