@@ -1,5 +1,7 @@
 // The examples of document 01 that are not starred, 10 to 12, run on the machine in lent memory. What each finds is a definition, and that it finds
 // it is proved from the machine's promises alone; the program then runs them, and what it writes is held to the file `stdout`.
+#![tactic(auto)]
+
 ghost use Rattle.std.specs.Prelude.{ℕ, ◌≡◌, length};
 ghost use Rattle.rounds.specs.declared.Verdict.TheVariants.{Accepted};
 ghost use Rattle.rounds.specs.Config.{Config, opening};
@@ -15,7 +17,7 @@ use rounds::Event;
 use words::Standing;
 
 // The numbers of example 10: the openings, and what is put to the last of them.
-#[derive(Drop)]
+#[derive(Clone, Copy)]
 struct Ten {
     none: u32,
     seventeen: u32,
@@ -30,7 +32,7 @@ struct Ten {
 }
 
 // What example 11 finds: the numbers of its events, and the receiver before the late send, after it, and after one more event.
-#[derive(Drop)]
+#[derive(Clone, Copy)]
 struct Eleven {
     first: u32,
     step: u32,
@@ -45,7 +47,7 @@ struct Eleven {
 }
 
 // What example 12 finds.
-#[derive(Drop)]
+#[derive(Clone, Copy)]
 struct Twelve {
     send: u32,
     broadcast: u32,

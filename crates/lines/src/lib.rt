@@ -1,8 +1,10 @@
 // The types in which the pieces of a sheet are handed over. What the sheet is, and what its pieces are, stands in specs/; the crate above writes them.
+#![tactic(auto)]
+
 use records::Place;
 
 // Where the writing of a sheet stands.
-#[derive(Drop)]
+#[derive(Clone, Copy)]
 pub enum Stand {
     // The trace is read, and has come to this place.
     Reads(Place),
@@ -11,7 +13,7 @@ pub enum Stand {
 }
 
 // What the next piece waits for.
-#[derive(Drop)]
+#[derive(Clone, Copy)]
 pub enum Wants {
     // More bytes of the trace: those at hand have no whole record left.
     Input,
@@ -22,7 +24,7 @@ pub enum Wants {
 }
 
 // What a piece has come to.
-#[derive(Drop)]
+#[derive(Clone, Copy)]
 pub struct Piece {
     // The bytes at hand that are used.
     pub used: usize,

@@ -1,5 +1,7 @@
 // The replay of a lent list of events: the form that document 01 names. N and the opening values come beside the list. The list is read where it
 // stands; it stops at the first refused event.
+#![tactic(auto)]
+
 ghost use Rattle.std.specs.Prelude.{◌≡◌, length};
 ghost use Rattle.rounds.specs.Verdicts.{number_of, open_verdict, verdict};
 ghost use Rattle.words.specs.Spelled.{control_of};
@@ -9,7 +11,7 @@ ghost use Rattle.listed.specs.Listed.{event_of, events_of, Passed};
 use machine::RUN;
 
 // The kinds of events.
-#[derive(Drop)]
+#[derive(Clone, Copy)]
 pub enum Kind {
     Send,
     Receive,
@@ -18,7 +20,7 @@ pub enum Kind {
 }
 
 // An event of the list. The first number is the process that acts; the second is ignored where only one is needed.
-#[derive(Drop)]
+#[derive(Clone, Copy)]
 pub struct Event {
     pub kind: Kind,
     pub first: u8,

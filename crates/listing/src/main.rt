@@ -1,5 +1,7 @@
 // Document 01's first example as a lent list: N, the values and six events go to the list's replay, and what it finds is what the paper's sheet has.
 // What is found is a definition, and that it is found is proved from the replay's promise alone; the program then writes the sheet's lines.
+#![tactic(auto)]
+
 ghost use Rattle.std.specs.Prelude.{◌≡◌};
 ghost use Rattle.listing.specs.Expected as Expected;
 
@@ -9,7 +11,7 @@ use voting::Choice;
 use words::Standing;
 
 // What the example finds: the number, the accepted events, and the two processes.
-#[derive(Drop)]
+#[derive(Clone, Copy)]
 struct One {
     number: u32,
     events: u32,

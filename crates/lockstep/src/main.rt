@@ -1,5 +1,7 @@
 // A hundred runs of the most processes in lock step: in each of 1,890 rounds everyone sends to all, hears all and steps. That is 99,792,000 events.
 // What is left at the end is known, and 'ok' is written where it is so. bench/ times this beside the same loop in C.
+#![tactic(auto)]
+
 ghost use Rattle.std.specs.Prelude.{ℕ, ◌*◌, ◌≡◌, length};
 ghost use Rattle.rounds.specs.Limits.{most_processes};
 ghost use Rattle.rounds.specs.Config.{Config, opening};

@@ -1,5 +1,7 @@
 // The round machine in lent memory: one array of words, changed in place. A send and a receive take constant time; a step and a broadcast go over the
 // processes. No call asks anything of its caller, nor of what the memory holds.
+#![tactic(auto)]
+
 mod broadcasting;
 mod cells;
 mod limits;

@@ -20,7 +20,7 @@ use voting::{Holding, Tally};
 use words::Answer;
 
 // What a process has heard in a round, and its reach with what it heard.
-#[derive(Drop)]
+#[derive(Clone, Copy)]
 struct Gathered {
     tally: Tally,
     reach: u32,

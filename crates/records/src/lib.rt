@@ -1,11 +1,13 @@
 // What stands at the head of the bytes of a trace: one record at a time, in the order of document 01's tests. Whatever the bytes are, there is an answer.
+#![tactic(auto)]
+
 ghost use Rattle.std.specs.Prelude.{◌<◌, ◌≡◌, get_or};
 ghost use Rattle.records.specs.Records as Records;
 
 use rounds::Event;
 
 // How far a trace has come.
-#[derive(Drop)]
+#[derive(Clone, Copy)]
 pub enum Place {
     // The first record stands here: it must be an opening.
     First,
@@ -16,7 +18,7 @@ pub enum Place {
 }
 
 // What is wrong with the bytes of a trace. Its number is that of document 01.
-#[derive(Drop)]
+#[derive(Clone, Copy)]
 pub enum Fault {
     // 9: the trace ends inside a record or without an end record.
     EndsInside,
@@ -31,7 +33,7 @@ pub enum Fault {
 }
 
 // What stands at the head of the bytes.
-#[derive(Drop)]
+#[derive(Clone, Copy)]
 pub enum Record {
     // An opening of this many processes; its values stand in the bytes.
     Opening(u8),
@@ -43,7 +45,7 @@ pub enum Record {
 }
 
 // What a record's first byte says.
-#[derive(Drop)]
+#[derive(Clone, Copy)]
 enum Tag {
     Opening,
     Send,

@@ -54,7 +54,7 @@ module _ {c₀ : Control} {d₀ : Content} where
       let next = apply (record { control = c; content = d }) e in
       subst (λ (xs : List Report). Course c₀ d₀ (after next es).control (after next es).content xs)
       (append_assoc rs (if_accepted (verdict c e) (told c e) []) (reports next es))
-      (onward (apply_course l e) es)
+      (onward {c = apply_control c e} {d = apply_content c d e} {rs = rs ++ if_accepted (verdict c e) (told c e) []} (apply_course l e) es)
 
 -- from a configuration to what it is after a list of events
 pub course : (c : Config) (es : List Event) → Course c.control c.content (after c es).control (after c es).content (reports c es)

@@ -1,9 +1,11 @@
 // The types that the round machine, its definitions and everything above it share, and the number of a verdict. The machine that runs is a crate above.
+#![tactic(auto)]
+
 ghost use Rattle.std.specs.Prelude.{◌≡◌};
 ghost use Rattle.rounds.specs.Verdicts.{number_of};
 
 // What a process is at, judged just before each accepted event.
-#[derive(Drop)]
+#[derive(Clone, Copy)]
 pub enum Stage {
     // S: it has not yet sent to all.
     Sending,
@@ -16,7 +18,7 @@ pub enum Stage {
 }
 
 // What a recorder writes down. The first number is the process that acts.
-#[derive(Drop)]
+#[derive(Clone, Copy)]
 pub enum Event {
     Send(u8, u8),
     Receive(u8, u8),
@@ -25,7 +27,7 @@ pub enum Event {
 }
 
 // What an opening or an event is answered with. Its number is that of document 01.
-#[derive(Drop)]
+#[derive(Clone, Copy)]
 pub enum Verdict {
     Accepted,
     // 1: there are no processes, or more than the machine holds.

@@ -1,5 +1,7 @@
 // Sets of processes as masks in a word: process k is bit k.
 // Every call is stated for every input; a process that a word has no room for is no member and cannot become one.
+#![tactic(auto)]
+
 ghost use Rattle.std.specs.Prelude.{◌≡◌, eqb};
 ghost use Rattle.sets.specs.Sets as S;
 

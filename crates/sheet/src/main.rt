@@ -1,5 +1,7 @@
 // The program that the desk runs: reads a trace from standard input and writes its sheet to standard output. All that it writes are the pieces that
 // sheet_text gives it; here they are only fetched, from a buffer of the trace, and passed on.
+#![tactic(auto)]
+
 ghost use Rattle.std.specs.Prelude.{◌+◌, ◌≤◌, ◌<◌, ◌≡◌, length, drop};
 ghost use Rattle.records.specs.Records.{longest};
 ghost use Rattle.lines.specs.declared.Wants.TheVariants as Wants;
@@ -16,7 +18,7 @@ const INPUT: usize = 49152;
 const OUTPUT: usize = 16384;
 
 // Where the program stands: the writing of the sheet, how many bytes of the trace it holds, and whether it is over.
-#[derive(Drop)]
+#[derive(Clone, Copy)]
 struct Seat {
     stand: Stand,
     held: usize,

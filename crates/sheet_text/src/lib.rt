@@ -1,5 +1,7 @@
 // The sheet of a trace as text, in pieces: each reads whole records from bytes of the trace at hand and writes lines into a lent buffer, as long as there is
 // room for one more. However the trace is cut into windows and whatever the room, the pieces add up to the sheet.
+#![tactic(auto)]
+
 mod text;
 
 ghost use Rattle.std.specs.Prelude.{◌+◌, ◌-◌, ◌≤◌, ◌≡◌, [], length, take, drop};

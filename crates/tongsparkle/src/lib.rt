@@ -1,4 +1,6 @@
 // The monitoring service's call: a trace and a report, each as bytes of the caller's, and the number back. include/tongsparkle.h is its C side.
+#![tactic(auto)]
+
 ghost use Rattle.std.specs.Prelude.{◌+◌, ◌*◌, ◌<◌, ◌≡◌, set};
 ghost use Rattle.std.proofs.lemmas.List.Edits.{sets};
 ghost use Rattle.words.specs.Calls.{standing_of};

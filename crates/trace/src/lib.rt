@@ -1,4 +1,6 @@
 // The replay of a trace: its records one after the other, read from the bytes and handed to the round machine in lent memory.
+#![tactic(auto)]
+
 ghost use Rattle.std.specs.Prelude.{◌+◌, ◌*◌, ◌≤◌, ◌<◌, ◌≡◌, length, get_or, take};
 ghost use Rattle.rounds.specs.Config.{Config};
 ghost use Rattle.rounds.specs.Verdicts.{open_verdict};
@@ -17,7 +19,7 @@ use rounds::{Event, Verdict};
 use words::Answer;
 
 // What the replay of a trace ends with. Its number is that of document 01.
-#[derive(Drop)]
+#[derive(Clone, Copy)]
 pub enum Ending {
     // The verdict that refuses an opening or an event; accepted where the trace is read to its end.
     Judged(Verdict),
@@ -26,7 +28,7 @@ pub enum Ending {
 }
 
 // What an accepted record has to tell.
-#[derive(Drop)]
+#[derive(Clone, Copy)]
 pub enum Told {
     Nothing,
     // A step: the process, the round that it finished, and who was heard in it.
@@ -34,7 +36,7 @@ pub enum Told {
 }
 
 // What comes of the record at the head of the bytes.
-#[derive(Drop)]
+#[derive(Clone, Copy)]
 pub enum Turn {
     // The bytes are cut short.
     More,

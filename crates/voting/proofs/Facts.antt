@@ -136,7 +136,7 @@ value_heard ms x a =
     let s = value_some ms (Present x) a in
     (s.0, s.1, cc)
 
-heard_value : {ms : List Message} {m : Message} → Among m ms → Among (Present m.value) (values ms)
+heard_value : {m : Message} {ms : List Message} → Among m ms → Among (Present m.value) (values ms)
 unfolding values
 heard_value (head e) = head (ap (λ (m : Message). Present m.value) e)
 heard_value (tail n) = tail (heard_value n)
@@ -151,7 +151,7 @@ vote_heard (m ∷ ms) c a = go (cases_cons a) (vote_heard ms c)
     go (inl e) ih = (m, head refl, sym e)
     go (inr n) ih = ((ih n).0, tail (ih n).1, (ih n).2)
 
-heard_vote : {ms : List Message} {m : Message} → Among m ms → Among m.vote (votes ms)
+heard_vote : {m : Message} {ms : List Message} → Among m ms → Among m.vote (votes ms)
 unfolding votes
 heard_vote (head e) = head (ap (λ (m : Message). m.vote) e)
 heard_vote (tail n) = tail (heard_vote n)

@@ -1,25 +1,27 @@
 // UniformVoting by value: what a process holds, what its messages carry, and the rule over a tally of what it heard.
 // A tally is made of the messages one by one, in any order; what it holds does not grow with their number.
+#![tactic(auto)]
+
 ghost use Rattle.std.specs.Prelude.{◌≡◌, List, [], ◌∷◌};
 ghost use Rattle.voting.specs.Voting as Rule;
 ghost use Rattle.voting.specs.Tally as Tallies;
 
 // A vote or a decision, which may be absent.
-#[derive(Drop)]
+#[derive(Clone, Copy)]
 pub enum Choice {
     Absent,
     Present(u32),
 }
 
 // What a message carries.
-#[derive(Drop)]
+#[derive(Clone, Copy)]
 pub struct Message {
     pub value: u32,
     pub vote: Choice,
 }
 
 // What a process holds.
-#[derive(Drop)]
+#[derive(Clone, Copy)]
 pub struct Holding {
     pub value: u32,
     pub vote: Choice,
@@ -28,7 +30,7 @@ pub struct Holding {
 
 // What a process has heard this round: whether anything, the least value, and whether all values are the same; whether any vote,
 // the least vote, and whether every message had a vote and all were the same.
-#[derive(Drop)]
+#[derive(Clone, Copy)]
 pub struct Tally {
     pub heard: bool,
     pub least: u32,

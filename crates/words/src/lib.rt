@@ -1,4 +1,6 @@
 // The types that the round machine in lent memory answers with, and the verdict of an answer. The machine that runs is the crate above.
+#![tactic(auto)]
+
 ghost use Rattle.std.specs.Prelude.{◌≡◌};
 ghost use Rattle.words.specs.Shows.{verdict_of};
 
@@ -6,7 +8,7 @@ use rounds::Verdict;
 use voting::Choice;
 
 // What an event is answered with.
-#[derive(Drop)]
+#[derive(Clone, Copy)]
 pub enum Answer {
     // Refused with this verdict; or accepted, with nothing to report.
     Judged(Verdict),
@@ -15,7 +17,7 @@ pub enum Answer {
 }
 
 // What the lead of a sender says of its message.
-#[derive(Drop)]
+#[derive(Clone, Copy)]
 pub enum Fate {
     // It is late, and not put in transit. A lead above the window, which no run has, discards it too.
     Discarded,
@@ -25,7 +27,7 @@ pub enum Fate {
 }
 
 // All that a report or a sheet shows of a process.
-#[derive(Drop)]
+#[derive(Clone, Copy)]
 pub struct Standing {
     pub round: u32,
     pub value: u32,

@@ -1,0 +1,33 @@
+use Rattle.std.proofs.Common.{◌+◌, arith, lt-ltb, le-leb}
+use borrow.Author.Tests.{lt-leb}
+use Rattle.rounds.specs.Limits.{most_events}
+use Rattle.rounds.specs.Verdicts.{refuse, outside, crowded, receive_verdict, verdict}
+use Rattle.words.specs.Spelled.{site_of, control_of}
+use Rattle.machine.proofs.receiving.judge_receive.Goals as goal
+
+pub returns-then-n-p : goal.returns-then-n-p
+unfolding verdict receive_verdict outside crowded refuse control_of site_of
+returns-then-n-p c = rw (← c.people-n.ensures.0, le-leb _ _ c.if-n-p.true)
+
+pub returns-then-n-q : goal.returns-then-n-q
+unfolding verdict receive_verdict outside crowded refuse control_of site_of
+returns-then-n-q c = rw (← c.people-n.ensures.0, lt-leb _ _ c.if-n-p.false, le-leb _ _ c.if-n-q.true)
+
+pub returns-then-head-ge-MOST_EVENTS : goal.returns-then-head-ge-MOST_EVENTS
+unfolding verdict receive_verdict outside crowded refuse control_of site_of
+returns-then-head-ge-MOST_EVENTS c =
+    rw (
+      ← c.people-n.ensures.0,
+      lt-leb _ _ c.if-n-p.false,
+      lt-leb _ _ c.if-n-q.false,
+      ← c.head.ensures,
+      lt-ltb most_events (c.head.result + 1) (omega arith),
+    )
+
+pub returns-then-has : goal.returns-then-has
+unfolding refuse
+returns-then-has c = rw (by-transit c, c.if-has.true)
+
+pub returns : goal.returns
+unfolding refuse
+returns c = rw (by-transit c, c.if-has.false)
