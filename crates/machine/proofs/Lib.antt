@@ -3,3 +3,4 @@ pub mod Rooms
 pub mod Lead
 pub mod Told
 pub mod Heard
+pub mod Clearing

@@ -1,4 +1,4 @@
-use Rattle.std.proofs.Common.{◌≡◌, ◌-◌, refl, add-one, arith, rules}
+use Rattle.std.proofs.Common.{◌≡◌, refl, add-one, arith, rules}
 use Rattle.words.specs.Calls.{sent_below}
 use Rattle.machine.proofs.broadcasting.carry_sends.Goals as goal
 

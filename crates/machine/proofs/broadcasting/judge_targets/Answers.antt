@@ -1,4 +1,4 @@
-use Rattle.std.proofs.Common.{◌≡◌, ◌-◌, refl, add-one, arith, rules}
+use Rattle.std.proofs.Common.{◌≡◌, refl, add-one, arith, rules}
 use Rattle.rounds.specs.Verdicts.{first_refusal}
 use Rattle.machine.proofs.broadcasting.judge_targets.Goals as goal
 

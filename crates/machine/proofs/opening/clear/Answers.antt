@@ -1,21 +1,8 @@
-use Rattle.std.proofs.Common.{◌≡◌, ℕ, zero, suc, ◌-◌, List, [], ◌∷◌, length, set, replicate, refl, ap, ◌∙◌, add-one, arith, rules}
+use Rattle.std.proofs.Common.{◌≡◌, ℕ, length, replicate, refl, ap, ◌∙◌, add-one, arith, rules}
 use Rattle.words.specs.Calls.{blank}
 use Rattle.words.proofs.Meaning.{clear_meant}
+use Rattle.machine.proofs.Clearing.{zeroed, zeroed_all}
 use Rattle.machine.proofs.opening.clear.Goals as goal
-
-zeroed : ℕ → List ℕ → List ℕ
-zeroed zero l = l
-zeroed (suc i) l = set (zeroed i l) i 0
-
-zeroed-more : (i x : ℕ) (l : List ℕ) → zeroed (suc i) (x ∷ l) ≡ 0 ∷ zeroed i l
-unfolding zeroed
-zeroed-more zero x l = refl
-zeroed-more (suc i) x l = ap (λ (k : List ℕ). set k (suc i) 0) (zeroed-more i x l)
-
-zeroed-all : (l : List ℕ) → zeroed (length l) l ≡ replicate (length l) 0
-unfolding zeroed
-zeroed-all [] = refl
-zeroed-all (x ∷ l) = zeroed-more (length l) x l ∙ ap (λ (k : List ℕ). 0 ∷ k) (zeroed-all l)
 
 pub loop-i-init : goal.loop-i-init
 unfolding zeroed
@@ -36,12 +23,15 @@ loop-i-preserved c =
     let l = c.loop-i in
     (search rules, rw (add-one l.i, ← l.invariant.1))
 
-pub returns : goal.returns
+pub returns-clause-exact : goal.returns-clause-exact
 unfolding blank
-returns c =
+returns-clause-exact c =
     let l = c.loop-i in
     let m = c.args.run.now in
     let end = c.extent-end.ensures.0 in
     let long = c.extent-end.ensures.1 in
     let e : l.i ≡ length m = omega arith in
-    clear_meant (l.invariant.1 ∙ ap (λ (k : ℕ). zeroed k m) e ∙ zeroed-all m ∙ ap (λ (k : ℕ). replicate k 0) long)
+    l.invariant.1 ∙ ap (λ (k : ℕ). zeroed k m) e ∙ zeroed_all m ∙ ap (λ (k : ℕ). replicate k 0) long
+
+pub returns-clause-meaning : goal.returns-clause-meaning
+returns-clause-meaning c = (clear_meant (returns-clause-exact c)).1

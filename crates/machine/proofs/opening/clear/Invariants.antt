@@ -1,7 +1,7 @@
 -- `clear` writes 0 over the words one by one; where all of them are written the memory is blank, whatever it held.
 -- Assumes nothing.
--- ---- the first i words are 0
 use Rattle.std.proofs.Common.{◌≡◌, ◌-◌, ◌≤◌}
+use Rattle.machine.proofs.Clearing.{zeroed}
 use Rattle.machine.proofs.opening.clear.Given as goal
 
 abbrev pub invariant-loop-i : goal.invariant-loop-i

@@ -1,4 +1,4 @@
-use Rattle.std.proofs.Common.{◌≡◌, ◌-◌, length, refl, add-one, arith, rules}
+use Rattle.std.proofs.Common.{◌≡◌, length, refl, add-one, arith, rules}
 use Rattle.words.specs.Calls.{placed_below}
 use Rattle.machine.proofs.opening.place_all.Goals as goal
 

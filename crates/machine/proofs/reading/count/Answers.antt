@@ -9,7 +9,7 @@ pub returns-then-stage-k : goal.returns-then-stage-k
 unfolding word count_of one
 returns-then-stage-k c =
     rw (
-      c.wrapping_add_u32.ensures,
+      c.wrapping_add_u32.ensures.value,
       c.less.ensures,
       c.line.ensures,
       c.head.ensures,
@@ -22,7 +22,7 @@ returns-then-stage-k c =
 pub returns : goal.returns
 unfolding word count_of one
 returns c =
-    let small : c.line-settled.result < 2 ^ 32 = c.line-settled.type-inv in
+    let small : c.line-settled.result < 2 ^ 32 = c.line-settled.type_inv in
     rw (
       ne_eqb _ _ (λ e. c.if-stage-k.false (c.stage.ensures.0 ∙ e ∙ sym c.index-k.ensures.0)),
       ← c.index-k.ensures.0,

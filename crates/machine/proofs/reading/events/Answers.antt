@@ -4,6 +4,9 @@ use Rattle.words.specs.Spelled.{control_of}
 use Rattle.words.proofs.Meaning.{events_meant}
 use Rattle.machine.proofs.reading.events.Goals as goal
 
-pub returns : goal.returns
+pub returns-clause-exact : goal.returns-clause-exact
 unfolding control_of
-returns c = events_meant _ c.head.ensures
+returns-clause-exact c = c.head.ensures
+
+pub returns-clause-meaning : goal.returns-clause-meaning
+returns-clause-meaning c = (events_meant c.args.run.now (returns-clause-exact c)).1

@@ -16,16 +16,16 @@ returns-then-people-i-clause-meaning c = (site_meant _ _ (returns-then-people-i-
 pub returns-clause-exact : goal.returns-clause-exact
 unfolding standing_of nobody
 returns-clause-exact c = rw (
-      ← c.people.ensures.0,
-      lt-leb _ _ c.if-people-i.false,
-      c.holding-h.ensures,
-      c.line.ensures,
-      c.line-2.ensures,
-      c.count.ensures,
-      c.count-2.ensures,
-      c.count-3.ensures,
-      c.count-4.ensures,
-    )
+  ← c.people.ensures.0,
+  lt-leb _ _ c.if-people-i.false,
+  c.holding-h.ensures,
+  c.line.ensures,
+  c.line-2.ensures,
+  c.count.ensures,
+  c.count-2.ensures,
+  c.count-3.ensures,
+  c.count-4.ensures,
+)
 
 pub returns-clause-meaning : goal.returns-clause-meaning
 returns-clause-meaning c = (site_meant _ _ (returns-clause-exact c)).1

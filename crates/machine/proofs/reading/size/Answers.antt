@@ -3,5 +3,8 @@
 use Rattle.words.proofs.Meaning.{size_meant}
 use Rattle.machine.proofs.reading.size.Goals as goal
 
-pub returns : goal.returns
-returns c = size_meant _ c.people.ensures.0
+pub returns-clause-exact : goal.returns-clause-exact
+returns-clause-exact c = c.people.ensures.0
+
+pub returns-clause-meaning : goal.returns-clause-meaning
+returns-clause-meaning c = (size_meant c.args.run.now (returns-clause-exact c)).1

@@ -1,4 +1,6 @@
-use Rattle.std.proofs.Common.{◌+◌, arith, lt-ltb, le-leb}
+-- `judge_receive` makes the tests of its definition, in the same order.
+-- Assumes nothing.
+use Rattle.std.proofs.Common.{◌+◌, arith, lt-ltb, le-ltb, le-leb}
 use borrow.Author.Tests.{lt-leb}
 use Rattle.rounds.specs.Limits.{most_events}
 use Rattle.rounds.specs.Verdicts.{refuse, outside, crowded, receive_verdict, verdict}
@@ -25,9 +27,31 @@ returns-then-head-ge-MOST_EVENTS c =
     )
 
 pub returns-then-has : goal.returns-then-has
-unfolding refuse
-returns-then-has c = rw (by-transit c, c.if-has.true)
+unfolding verdict receive_verdict outside crowded refuse control_of site_of
+returns-then-has c =
+    rw (
+      ← c.people-n.ensures.0,
+      lt-leb _ _ c.if-n-p.false,
+      lt-leb _ _ c.if-n-q.false,
+      ← c.head.ensures,
+      le-ltb most_events (c.head.result + 1) (omega arith),
+      ← c.line.ensures,
+      ← c.transit.ensures,
+      ← c.has.ensures,
+      c.if-has.true,
+    )
 
 pub returns : goal.returns
-unfolding refuse
-returns c = rw (by-transit c, c.if-has.false)
+unfolding verdict receive_verdict outside crowded refuse control_of site_of
+returns c =
+    rw (
+      ← c.people-n.ensures.0,
+      lt-leb _ _ c.if-n-p.false,
+      lt-leb _ _ c.if-n-q.false,
+      ← c.head.ensures,
+      le-ltb most_events (c.head.result + 1) (omega arith),
+      ← c.line.ensures,
+      ← c.transit.ensures,
+      ← c.has.ensures,
+      c.if-has.false,
+    )

@@ -29,12 +29,11 @@ returns-then-head-ge-MOST_EVENTS c =
 pub returns : goal.returns
 unfolding verdict outside crowded refuse control_of
 returns c =
-    let both-known = c in
     rw (
       c.judge_target.ensures,
-      ← both-known.before.before.people.ensures.0,
-      lt-leb _ _ both-known.before.if1.false,
-      lt-leb _ _ both-known.if2.false,
+      ← c.people-n.ensures.0,
+      lt-leb _ _ c.if-n-p.false,
+      lt-leb _ _ c.if-n-q.false,
       ← c.head.ensures,
       le-ltb most_events (c.head.result + 1) (omega arith),
     )

@@ -6,4 +6,4 @@ use Rattle.machine.proofs.settling.count_event.Goals as goal
 
 pub returns : goal.returns
 unfolding counted word
-returns c = rw (c.set_head.ensures, c.wrapping_add_u32-next.ensures, c.head.ensures)
+returns c = rw (c.set_head.ensures, c.wrapping_add_u32-next.ensures.value, c.head.ensures)

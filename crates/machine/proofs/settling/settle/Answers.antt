@@ -10,7 +10,7 @@ returns c =
     rw (
       c.set_line-2.ensures,
       c.set_line.ensures,
-      c.wrapping_add_u32-count.ensures,
+      c.wrapping_add_u32-count.ensures.value,
       c.line-2.ensures,
       c.less-waited.ensures,
       c.line.ensures,

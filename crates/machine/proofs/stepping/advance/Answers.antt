@@ -13,5 +13,5 @@ returns c =
       c.set_line-2.ensures,
       c.set_line.ensures,
       c.set_transit.ensures,
-      c.wrapping_add_u32-next.ensures,
+      c.wrapping_add_u32-next.ensures.value,
     )

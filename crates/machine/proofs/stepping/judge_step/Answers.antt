@@ -1,3 +1,5 @@
+-- `judge_step` makes the tests of its definition, in the same order.
+-- Assumes nothing.
 use Rattle.std.proofs.Common.{◌+◌, arith, le-ltb, lt-ltb, eq-eqb, ne_eqb, le-leb}
 use borrow.Author.Tests.{lt-leb}
 use Rattle.rounds.specs.Limits.{most_events}
@@ -34,9 +36,31 @@ returns-then-line-everyone c =
     )
 
 pub returns-then-line-eq-LAST_ROUND : goal.returns-then-line-eq-LAST_ROUND
-unfolding refuse
-returns-then-line-eq-LAST_ROUND c = rw (by-round c, eq-eqb _ _ c.if-line-eq-LAST_ROUND.true)
+unfolding verdict step_verdict sent_to_all outside crowded refuse control_of site_of
+returns-then-line-eq-LAST_ROUND c =
+    rw (
+      ← c.people-n.ensures.0,
+      lt-leb _ _ c.if-n-p.false,
+      ← c.head.ensures,
+      le-ltb most_events (c.head.result + 1) (omega arith),
+      ← c.line.ensures,
+      ← c.everyone.ensures,
+      eq-eqb _ _ c.if-line-everyone.false,
+      ← c.line-2.ensures,
+      eq-eqb _ _ c.if-line-eq-LAST_ROUND.true,
+    )
 
 pub returns : goal.returns
-unfolding refuse
-returns c = rw (by-round c, ne_eqb _ _ c.if-line-eq-LAST_ROUND.false)
+unfolding verdict step_verdict sent_to_all outside crowded refuse control_of site_of
+returns c =
+    rw (
+      ← c.people-n.ensures.0,
+      lt-leb _ _ c.if-n-p.false,
+      ← c.head.ensures,
+      le-ltb most_events (c.head.result + 1) (omega arith),
+      ← c.line.ensures,
+      ← c.everyone.ensures,
+      eq-eqb _ _ c.if-line-everyone.false,
+      ← c.line-2.ensures,
+      ne_eqb _ _ c.if-line-eq-LAST_ROUND.false,
+    )

@@ -1,4 +1,4 @@
-use Rattle.std.proofs.Common.{◌≡◌, ◌-◌, ◌∙◌, add-one, arith, rules}
+use Rattle.std.proofs.Common.{◌≡◌, ◌∙◌, add-one, arith, rules}
 use Rattle.machine.proofs.Heard.{tally_none, reach_none}
 use Rattle.machine.proofs.stepping.listen.Goals as goal
 
