@@ -9,4 +9,4 @@ pub slice_bounds-begin-end : goal.slice_bounds-begin-end
 slice_bounds-begin-end c = sym (ap length c.fill.ensures ∙ words_length _ _)
 
 pub returns : goal.returns
-returns c = rw c.fill.ensures at c.«begin».ensures.0
+returns c = rw c.fill.ensures at (c.«begin».ensures.exact)

@@ -8,7 +8,7 @@ use Rattle.records.specs.Script.{words}
 use Rattle.trace.proofs.fill.Given as goal
 
 abbrev pub invariant-loop-i : goal.invariant-loop-i
-invariant-loop-i l =     (l.i ≤ l.n) × (length l.values ≡ length l.initial.values) × (l.n ≤ length l.initial.values) × (l.n < 256) × (take l.i l.values ≡ words l.i l.bytes)
+invariant-loop-i l = (l.i ≤ l.n) × (length l.values ≡ length l.initial.values) × (l.n ≤ length l.initial.values) × (l.n < 256) × (take l.i l.values ≡ words l.i l.bytes)
 
 abbrev pub decreases-loop-i : goal.decreases-loop-i
 decreases-loop-i l = l.n - l.i

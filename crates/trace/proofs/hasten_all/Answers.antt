@@ -1,4 +1,3 @@
-use Prim.Native.Nat.{◌-◌}
 use native.Mathlib.Omega.{arith}
 use Rattle.trace.proofs.Hastening.{not_yet, hastens_far, hastens_on, hastens_no_more}
 use Rattle.trace.proofs.hasten_all.Goals as goal

@@ -40,12 +40,12 @@ pub returns-then-number-eq0 : goal.returns-then-number-eq0
 unfolding on_opening if_accepted accepted values_of extent
 returns-then-number-eq0 c =
     let used = c.extent-used.ensures in
-    let made = rw (values-part _ _ _ used) at begun.«begin».ensures in
+    let made = rw (values-part _ _ _ used) at c.begin-judged.ensures in
     (rw (← made.0, ← c.number.ensures, eq-eqb _ _ c.if-number-eq0.true, used), made.1)
 
 pub returns : goal.returns
 unfolding on_opening if_accepted accepted values_of extent
 returns c =
     let used = c.extent-used.ensures in
-    let made = rw (values-part _ _ _ used) at begun.«begin».ensures in
+    let made = rw (values-part _ _ _ used) at c.begin-judged.ensures in
     (rw (← made.0, ← c.number.ensures, ne_eqb _ _ c.if-number-eq0.false), made.1)
