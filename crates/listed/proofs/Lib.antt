@@ -2,6 +2,3 @@
 pub mod Turning
 pub mod SameRun
 pub mod Blind
-pub mod Locals
-pub mod Calling
-pub mod Walking
