@@ -66,8 +66,7 @@ fn put_rows(report: &mut [u8], run: &[u32; RUN])
 }
 
 // Replays the trace, writes the report of what was accepted, and gives the number of document 01.
-#[unsafe(no_mangle)]
-pub extern "C" fn tongsparkle_replay(trace: &[u8], report: &mut [u8]) -> u32
+pub fn tongsparkle_replay(trace: &[u8], report: &mut [u8]) -> u32
     ensures { Reported trace.now report.old result report.new }
 {
     if report.len() < ROOM {
