@@ -1,4 +1,4 @@
-use Prim.Native.Nat.{ℕ, ◌+◌, ◌-◌, ◌≤◌, ◌<◌}
+use Prim.Native.Nat.{ℕ, ◌+◌, ◌≤◌, ◌<◌}
 use native.Mathlib.Omega.{arith}
 use mathlib.Core.Path.{◌≡◌}
 use Rattle.words.specs.Layout.{Mem}
@@ -9,6 +9,7 @@ use Rattle.sheet_text.proofs.Writing.{wrote_length}
 use Rattle.sheet_text.proofs.Pacing.{none_shut, all_came, short_came, line_on}
 use Rattle.sheet_text.proofs.close.Goals as goal
 
+-- the loop's test is whether a line is left
 next : (m : Mem) (n k : ℕ) → n ≡ people m → k < n + n + 1 → k < Pieces.closing_count m
 unfolding Pieces.closing_count
 next m n k q l = rw (← q) l
@@ -49,9 +50,8 @@ put_closing-written-requires c = omega arith
 
 pub overflow_add-k : goal.overflow_add-k
 overflow_add-k c =
-    let s = sized (begun c) in
-    let most = people_most s.before.before.args.run.now in
-    let n = s.size.ensures.0 in
+    let most = people_most c.args.run.now in
+    let n = c.size-n.ensures.exact in
     omega arith
 
 pub loop-k-smaller : goal.loop-k-smaller
@@ -59,8 +59,7 @@ loop-k-smaller c = omega arith
 
 pub loop-k-preserved : goal.loop-k-preserved
 loop-k-preserved c =
-    line_on (begun c).loop.invariant (next _ _ _ (sized (begun c)).size.ensures.0 (omega arith)) c.if-out-written-lt-LINE.false
-    c.put_closing-written.ensures
+    line_on c.loop-k.invariant (next _ _ _ c.size-n.ensures.exact (omega arith)) c.if-out-written-lt-LINE.false c.put_closing-written.ensures
 
 pub shape_of-out : goal.shape_of-out
 shape_of-out c = wrote_length c.loop-k.invariant.wrote

@@ -1,11 +1,13 @@
+-- `write` is the piece of where the writing stands.
+-- Assumes nothing.
 use Rattle.lines.specs.Pieces as Pieces
 use Rattle.sheet_text.proofs.Pacing.{any_bytes}
 use Rattle.sheet_text.proofs.write.Goals as goal
 
 pub returns-in-Reads : goal.returns-in-Reads
 unfolding Pieces.piece
-returns-in-Reads c = rw (reads c).stand.given.1 c.follow.ensures
+returns-in-Reads c = rw c.in-Reads.is c.follow.ensures
 
 pub returns-in-Closes : goal.returns-in-Closes
 unfolding Pieces.piece
-returns-in-Closes c = rw (closes c).stand2.given.1 (any_bytes _ _ _ _ _ c.close.ensures)
+returns-in-Closes c = rw c.in-Closes.is (any_bytes _ _ _ _ _ c.close.ensures)
