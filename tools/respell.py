@@ -74,8 +74,10 @@ def old_words(text):
     text = re.sub(r"\((\w+) \.(\w+) (\w+) \.(\w+)\)", r"(\1.\2 \3).\4", text)
     text = re.sub(r"\((\w+) \.(\w+) (\w+) \.(\w+) \.(\w+)\)", r"(\1.\2 \3).\4.\5", text)
     text = re.sub(r"\((\w+(?: \.\w+)+)\)", lambda m: m.group(1).replace(" .", "."), text)
+    text = re.sub(r"(\u03bb q\. )c \.site q \.reach", r"\1(c.site q).reach", text)
     text = re.sub(r"(?<=[\w)]) \.(?=[a-z])", ".", text)
     text = text.replace("\u2032", "'").replace("_%_", "\u25cc%\u25cc")
+    text = re.sub(r"standingOf m k\.(\w+)", r"(standingOf m k).\1", text)
     # `outcome w .ending` is `(outcome w).ending`
     text = re.sub(r"\(outcome (\w+)((?: ?\.\w+)+)\)", lambda m: "(outcome %s)%s" % (m.group(1), m.group(2).replace(" ", "")), text)
     text = re.sub(r"outcome w\.(\w+)", r"(outcome w).\1", text)
