@@ -38,6 +38,7 @@ pub fn union(a: u32, b: u32) -> u32
     a | b
 }
 
+#[tactic(auto, using(crate::proofs::Bounds::one_shifted), unfolding(crate::specs::Sets::full, crate::specs::Sets::full_room))]
 pub fn full(n: u32) -> u32
     ensures { result ≡ S.full_room n }
 {

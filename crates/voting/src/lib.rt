@@ -83,6 +83,7 @@ pub fn hear(t: Tally, m: Message) -> Tally
 }
 
 // The smaller of a and b; b where there is no a yet.
+#[tactic(auto, unfolding(crate::specs::Tally::lesser))]
 fn lesser(some: bool, a: u32, b: u32) -> u32
     ensures { result ≡ Tallies.lesser some a b }
 {
@@ -101,6 +102,7 @@ fn still(some: bool, same: bool, a: u32, b: u32) -> bool
 }
 
 // What a process holds after a round in which it heard what the tally says.
+#[tactic(auto, unfolding(crate::specs::Tally::ruled, crate::specs::Voting::odd))]
 pub fn rule(round: u32, own: Holding, t: Tally) -> Holding
     ensures exact { result ≡ Tallies.ruled round own t }
     ensures meaning { (ms : List Message) → t ≡ Tallies.tally ms → result ≡ Rule.rule round own ms }

@@ -1,4 +1,4 @@
-use Rattle.std.proofs.Common.{refl}
+use Rattle.std.proofs.Common.{refl, arith}
 use Rattle.listed.specs.declared.Kind.TheVariants.{Send}
 use Rattle.listed.proofs.Turning.{stops, goes_on, ends}
 use Rattle.listed.proofs.follow.Goals as goal
@@ -10,7 +10,7 @@ pub returns-then-r-ne0 : goal.returns-then-r-ne0
 returns-then-r-ne0 c = stops _ _ _ _ _ c.loop-i.invariant c.loop-i-test.true _ _ c.happen-r.ensures c.if-r-ne0.true
 
 pub loop-i-preserved : goal.loop-i-preserved
-loop-i-preserved c = goes_on _ _ _ _ _ c.loop-i.invariant c.loop-i-test.true _ _ c.happen-r.ensures c.if-r-ne0.false
+loop-i-preserved c = goes_on _ _ _ _ _ c.loop-i.invariant c.loop-i-test.true _ _ c.happen-r.ensures (omega arith)
 
 pub returns : goal.returns
 returns c = ends _ _ _ (record { kind = Send; first = 0; second = 0 }) _ c.loop-i.invariant c.loop-i-test.false

@@ -11,4 +11,4 @@ pub returns : goal.returns
 returns c =
     let a = c.args in
     let replayed = c.replay-ending.ensures in
-    room_enough a.trace.now a.report.now c.if-report-lt-ROOM.false replayed.meaning replayed.exact.0 c.number.ensures c.put_rows.ensures
+    room_enough a.trace.now a.report.now (omega arith) replayed.meaning replayed.exact.0 c.number.ensures c.put_rows.ensures

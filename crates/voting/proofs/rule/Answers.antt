@@ -8,20 +8,16 @@ use Rattle.voting.specs.Tally.{ruled}
 use Rattle.voting.proofs.Tallies.{rule_meaning}
 use Rattle.voting.proofs.rule.Goals as goal
 
-pub returns-then-round-eq1-clause-exact : goal.returns-then-round-eq1-clause-exact
-unfolding ruled odd
-returns-then-round-eq1-clause-exact c =
-    let o : odd c.args.round ≡ true = eq-eqb _ _ c.if-round-eq1.true in
-    rw (c.odd_rule.ensures, o)
-
 pub returns-then-round-eq1-clause-meaning : goal.returns-then-round-eq1-clause-meaning
-returns-then-round-eq1-clause-meaning c = (rule_meaning c.args.round c.args.own (returns-then-round-eq1-clause-exact c)).1
-
-pub returns-else-round-eq1-clause-exact : goal.returns-else-round-eq1-clause-exact
 unfolding ruled odd
-returns-else-round-eq1-clause-exact c =
-    let o : odd c.args.round ≡ false = ne_eqb _ _ c.if-round-eq1.false in
-    rw (c.even_rule.ensures, o)
+returns-then-round-eq1-clause-meaning c =
+    let o : odd c.args.round ≡ true = eq-eqb _ _ c.if-round-eq1.true in
+    let exact : c.odd_rule.result ≡ ruled c.args.round c.args.own c.args.t = rw (c.odd_rule.ensures, o) in
+    (rule_meaning c.args.round c.args.own exact).1
 
 pub returns-else-round-eq1-clause-meaning : goal.returns-else-round-eq1-clause-meaning
-returns-else-round-eq1-clause-meaning c = (rule_meaning c.args.round c.args.own (returns-else-round-eq1-clause-exact c)).1
+unfolding ruled odd
+returns-else-round-eq1-clause-meaning c =
+    let o : odd c.args.round ≡ false = ne_eqb _ _ c.if-round-eq1.false in
+    let exact : c.even_rule.result ≡ ruled c.args.round c.args.own c.args.t = rw (c.even_rule.ensures, o) in
+    (rule_meaning c.args.round c.args.own exact).1
