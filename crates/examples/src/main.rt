@@ -14,6 +14,7 @@ ghost use Rattle.examples.specs.Expected as Expected;
 
 use machine::RUN;
 use rounds::Event;
+use std::io;
 use words::Standing;
 
 // The numbers of example 10: the openings, and what is put to the last of them.
@@ -158,72 +159,57 @@ fn example_12(run: &mut [u32; RUN]) -> Twelve
 }
 
 // A line: what is asked, and the number found.
-fn say(what: &[u8], found: u32) {
-    io::write_all(1, what);
-    io::print_decimal(1, found as u64);
-    io::write_all(1, b"\n");
-}
-
-fn part(n: u32) {
-    io::write_all(1, b" ");
-    io::print_decimal(1, n as u64);
+fn say(rt: &impl Print, what: &str, found: u32) -> io::Result<()> {
+    println!(rt; "{what}{found}")
 }
 
 // A line: the round and the counts S, C, P, I of a process.
-fn show(what: &[u8], s: Standing) {
-    io::write_all(1, what);
-    part(s.round);
-    part(s.sending);
-    part(s.collecting);
-    part(s.pending);
-    part(s.idle);
-    io::write_all(1, b"\n");
+fn show(rt: &impl Print, what: &str, s: Standing) -> io::Result<()> {
+    println!(rt;
+        "{what} {} {} {} {} {}",
+        s.round, s.sending, s.collecting, s.pending, s.idle
+    )
 }
 
-fn say_10(t: Ten) {
-    say(b"10. N = 0: ", t.none);
-    say(b"10. N = 17: ", t.seventeen);
-    say(b"10. N = 16 with 17 values: ", t.uneven);
-    say(b"10. N = 16: ", t.sixteen);
-    say(b"10. send from 15 to 15: ", t.inside);
-    say(b"10. send from 15 to 16: ", t.send);
-    say(b"10. receive by 16 from 15: ", t.receive);
-    say(b"10. step of 16: ", t.step);
-    say(b"10. broadcast of 16: ", t.broadcast);
-    say(b"10. accepted events: ", t.events);
+fn say_10(rt: &impl Print, t: Ten) -> io::Result<()> {
+    say(rt, "10. N = 0: ", t.none)?;
+    say(rt, "10. N = 17: ", t.seventeen)?;
+    say(rt, "10. N = 16 with 17 values: ", t.uneven)?;
+    say(rt, "10. N = 16: ", t.sixteen)?;
+    say(rt, "10. send from 15 to 15: ", t.inside)?;
+    say(rt, "10. send from 15 to 16: ", t.send)?;
+    say(rt, "10. receive by 16 from 15: ", t.receive)?;
+    say(rt, "10. step of 16: ", t.step)?;
+    say(rt, "10. broadcast of 16: ", t.broadcast)?;
+    say(rt, "10. accepted events: ", t.events)
 }
 
-fn say_11(t: Eleven) {
-    let before = t.before;
-    let after = t.after;
-    let later = t.later;
-    say(b"11. broadcast of 1 at round 1: ", t.first);
-    say(b"11. step of 1: ", t.step);
-    say(b"11. broadcast of 1 at round 2: ", t.second);
-    say(b"11. receive by 1 from 1: ", t.own);
-    show(b"11. round, S, C, P, I of 1:", before);
-    say(b"11. send from 0 at round 1 to 1 at round 2: ", t.late);
-    show(b"11. round, S, C, P, I of 1:", after);
-    say(b"11. receive by 1 from 0: ", t.receive);
-    say(b"11. send from 0 to 0: ", t.more);
-    show(b"11. round, S, C, P, I of 1:", later);
+fn say_11(rt: &impl Print, t: Eleven) -> io::Result<()> {
+    say(rt, "11. broadcast of 1 at round 1: ", t.first)?;
+    say(rt, "11. step of 1: ", t.step)?;
+    say(rt, "11. broadcast of 1 at round 2: ", t.second)?;
+    say(rt, "11. receive by 1 from 1: ", t.own)?;
+    show(rt, "11. round, S, C, P, I of 1:", t.before)?;
+    say(rt, "11. send from 0 at round 1 to 1 at round 2: ", t.late)?;
+    show(rt, "11. round, S, C, P, I of 1:", t.after)?;
+    say(rt, "11. receive by 1 from 0: ", t.receive)?;
+    say(rt, "11. send from 0 to 0: ", t.more)?;
+    show(rt, "11. round, S, C, P, I of 1:", t.later)
 }
 
-fn say_12(t: Twelve) {
-    say(b"12. send from 0 to 1: ", t.send);
-    say(b"12. broadcast of 0: ", t.broadcast);
-    say(b"12. accepted events: ", t.events);
-    say(b"12. receive by 0 from 0: ", t.receive);
-    say(b"12. send from 0 to 0: ", t.again);
+fn say_12(rt: &impl Print, t: Twelve) -> io::Result<()> {
+    say(rt, "12. send from 0 to 1: ", t.send)?;
+    say(rt, "12. broadcast of 0: ", t.broadcast)?;
+    say(rt, "12. accepted events: ", t.events)?;
+    say(rt, "12. receive by 0 from 0: ", t.receive)?;
+    say(rt, "12. send from 0 to 0: ", t.again)
 }
 
-fn main() {
+fn main(rt: HostRuntime) -> io::Result<()> {
     let mut run = [0u32; RUN];
-    say(
-        b"Before any opening, step of 0: ",
-        put(&mut run, Event::Step(0)),
-    );
-    say_10(example_10(&mut run));
-    say_11(example_11(&mut run));
-    say_12(example_12(&mut run));
+    let early = put(&mut run, Event::Step(0));
+    say(&rt, "Before any opening, step of 0: ", early)?;
+    say_10(&rt, example_10(&mut run))?;
+    say_11(&rt, example_11(&mut run))?;
+    say_12(&rt, example_12(&mut run))
 }
