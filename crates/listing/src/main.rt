@@ -7,6 +7,7 @@ ghost use Rattle.listing.specs.Expected as Expected;
 
 use listed::{Event, Kind};
 use machine::RUN;
+use std::io;
 use voting::Choice;
 use words::Standing;
 
@@ -77,63 +78,41 @@ fn example_1(run: &mut [u32; RUN]) -> One
     }
 }
 
-fn part(n: u32) {
-    io::write_all(1, b" ");
-    io::print_decimal(1, n as u64);
-}
-
 // A vote or a decision, and a dash where there is none.
-fn choice(c: Choice) {
+fn choice(rt: &impl Print, c: Choice) -> io::Result<()> {
     match c {
-        Choice::Absent => {
-            io::write_all(1, b" -");
-        }
-        Choice::Present(x) => part(x),
+        Choice::Absent => print!(rt; " -"),
+        Choice::Present(x) => print!(rt; " {x}"),
     }
 }
 
 // The `w` line of process p: its round, the counts S, C, P, I and its reach.
-fn waits(p: u32, s: Standing) {
-    io::write_all(1, b"w");
-    part(p);
-    part(s.round);
-    part(s.sending);
-    part(s.collecting);
-    part(s.pending);
-    part(s.idle);
-    io::write_all(1, b" ");
-    io::print_hex(1, s.reach as u64, 4);
-    io::write_all(1, b"\n");
+fn waits(rt: &impl Print, p: u32, s: Standing) -> io::Result<()> {
+    println!(rt;
+        "w {p} {} {} {} {} {} {:04x}",
+        s.round, s.sending, s.collecting, s.pending, s.idle, s.reach
+    )
 }
 
 // The `v` line of process p: its value, vote and decision.
-fn holds(p: u32, s: Standing) {
-    let vote = s.vote;
-    let decision = s.decision;
-    io::write_all(1, b"v");
-    part(p);
-    part(s.value);
-    choice(vote);
-    choice(decision);
-    io::write_all(1, b"\n");
+fn holds(rt: &impl Print, p: u32, s: Standing) -> io::Result<()> {
+    print!(rt; "v {p} {}", s.value)?;
+    choice(rt, s.vote)?;
+    choice(rt, s.decision)?;
+    println!(rt; "")
 }
 
 // The `e` line: the accepted events and the number.
-fn ends(events: u32, number: u32) {
-    io::write_all(1, b"e");
-    part(events);
-    part(number);
-    io::write_all(1, b"\n");
+fn ends(rt: &impl Print, events: u32, number: u32) -> io::Result<()> {
+    println!(rt; "e {events} {number}")
 }
 
-fn main() {
+fn main(rt: HostRuntime) -> io::Result<()> {
     let mut run = [0u32; RUN];
     let found = example_1(&mut run);
-    let first = found.first;
-    let second = found.second;
-    waits(0, first);
-    waits(1, second);
-    holds(0, first);
-    holds(1, second);
-    ends(found.events, found.number);
+    waits(&rt, 0, found.first)?;
+    waits(&rt, 1, found.second)?;
+    holds(&rt, 0, found.first)?;
+    holds(&rt, 1, found.second)?;
+    ends(&rt, found.events, found.number)
 }

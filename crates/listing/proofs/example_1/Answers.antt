@@ -13,9 +13,7 @@ use Rattle.words.specs.Shows.{Shows, standing}
 use Rattle.listed.specs.declared.Event.{Event}
 use Rattle.listed.specs.Listed.{event, event_of, events_of}
 use Rattle.listing.specs.Expected.{send, receive, step}
-use borrow.Author.Rules.{rules}
-use Rattle.listing.proofs.example_1.Statement.{statement}
-use Rattle.listing.proofs.example_1.Tie as tie
+use Rattle.listing.proofs.example_1.Goals as goal
 
 -- the events as they are lent, and the night of document 01's trace, which they are to the round machine
 abbrev six : List Event
@@ -36,71 +34,17 @@ shows-ended : {m : Mem} {es : List Event} → es ≡ six → Shows m (night 2 se
 unfolding event event_of events_of
 shows-ended {m} e s = subst (λ (es : List Event). Shows m (night 2 seven_and_four (events_of es))) e s
 
-send-requires : tie.Need-send-requires
-send-requires c κs = search rules
-
-send-requires-2 : tie.Need-send-requires-2
-send-requires-2 c κs = search rules
-
-receive-requires : tie.Need-receive-requires
-receive-requires c κs = search rules
-
-send-requires-3 : tie.Need-send-requires-3
-send-requires-3 c κs = search rules
-
-receive-requires-2 : tie.Need-receive-requires-2
-receive-requires-2 c κs = search rules
-
-step-requires : tie.Need-step-requires
-step-requires c κs = search rules
-
-slice-aggregate-replay-six : tie.Need-slice-aggregate-replay-six
-slice-aggregate-replay-six c = search rules
-
-replay-six-requires : tie.Need-replay-six-requires
-replay-six-requires c κs = search rules
-
-events-requires : tie.Need-events-requires
-events-requires c κs = search rules
-
-site-requires : tie.Need-site-requires
-site-requires c κs = search rules
-
-site-requires-2 : tie.Need-site-requires-2
-site-requires-2 c κs = search rules
-
-returns : tie.Need-returns
+pub returns : goal.returns
 unfolding run standing open_verdict night
 returns c =
-    let counted = c.before.before.before.before in
-    let replayed = counted.before.before in
-    let last = replayed.before.before.before in
-    let third = last.before.before.before in
     let same =
-    six-are third.before.before.send.ensures third.before.send2.ensures
-    third.receive.ensures last.before.before.send3.ensures last.before.receive2.ensures last.step.ensures in
-    let promise = replayed.replay-six.ensures in
+    six-are c.send.ensures c.send-2.ensures
+    c.receive.ensures c.send-3.ensures c.receive-2.ensures c.step.ensures in
+    let promise = c.replay_six-number.ensures in
     let shows = shows-ended same promise.2 in
     rw (
       number-ended same promise.0,
-      counted.events.ensures.1 ended shows,
-      c.before.before.site.ensures.1 ended shows (lit< tt),
-      c.site2.ensures.1 ended shows (lit< tt),
+      c.events-accepted.ensures.meaning ended shows,
+      c.site-first.ensures.meaning ended shows (lit< tt),
+      c.site-second.ensures.meaning ended shows (lit< tt),
     )
-
-pub example-1-spec : {M : Type 1} → statement M
-example-1-spec =
-    tie.close
-    (tie.spec
-    send-requires
-    send-requires-2
-    receive-requires
-    send-requires-3
-    receive-requires-2
-    step-requires
-    slice-aggregate-replay-six
-    replay-six-requires
-    events-requires
-    site-requires
-    site-requires-2
-    returns)
