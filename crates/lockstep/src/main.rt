@@ -12,6 +12,7 @@ ghost use Rattle.words.specs.Shows.{Shows, Given};
 ghost use Rattle.lockstep.specs.LockStep.{round_events, receives_below, one_turn, all_send, all_turn, one_round, many_rounds};
 
 use machine::{MOST_PROCESSES, RUN};
+use std::io;
 
 // As many processes as there can be.
 const ALL: u8 = MOST_PROCESSES as u8;
@@ -80,20 +81,19 @@ fn night(run: &mut [u32; RUN], values: &[u32])
     }
 }
 
-fn main() {
+fn main(rt: HostRuntime) -> io::Result<()> {
     let values = [7u32, 4, 9, 12, 3, 7, 4, 9, 12, 3, 7, 4, 9, 12, 3, 11];
     let mut run = [0u32; RUN];
     for _ in 0..100u32 {
         night(&mut run, &values[..]);
     }
     let first = machine::site(&run, 0);
-    if machine::events(&run) == 997920 {
-        if first.round == 1891 {
-            if first.value == 3 {
-                if first.reach == EVERYONE {
-                    io::write_all(1, b"ok\n");
-                }
-            }
-        }
+    if machine::events(&run) == 997920
+        && first.round == 1891
+        && first.value == 3
+        && first.reach == EVERYONE
+    {
+        println!(rt; "ok")?;
     }
+    Ok(())
 }

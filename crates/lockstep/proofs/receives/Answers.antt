@@ -1,0 +1,20 @@
+use native.Mathlib.Omega.{arith}
+use mathlib.Core.Path.{◌≡◌}
+use Rattle.rounds.specs.Limits.{most_processes}
+use Rattle.rounds.specs.Runs.{after}
+use Rattle.lockstep.specs.LockStep.{receives_below}
+use Rattle.lockstep.proofs.Joining.{received_next}
+use Rattle.lockstep.proofs.receives.Goals as goal
+
+pub loop-q-init : goal.loop-q-init
+unfolding receives_below after
+loop-q-init c = λ d s. s
+
+pub loop-q-preserved : goal.loop-q-preserved
+loop-q-preserved c = received_next c.loop-q.q c.args.p c.loop-q.invariant (λ d s. (c.receive.ensures.meaning d s).shows)
+
+pub returns : goal.returns
+returns c =
+    let l = c.loop-q in
+    let e : l.q ≡ most_processes = omega arith in
+    rw e at l.invariant
