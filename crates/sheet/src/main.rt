@@ -8,9 +8,9 @@ ghost use Rattle.lines.specs.declared.Wants.TheVariants as Wants;
 ghost use Rattle.lines.specs.Pieces.{line_room};
 ghost use Rattle.lines.specs.Claims.{ahead};
 
-use libc::{STDERR_FILENO, STDIN_FILENO, STDOUT_FILENO};
 use lines::{Piece, Stand, Wants};
 use machine::RUN;
+use std::io::Read;
 
 // The trace is read, and the sheet written, through 64 KiB in all.
 const INPUT: usize = 49152;
@@ -26,7 +26,14 @@ struct Seat {
 }
 
 // One piece, written out. Where that fails, nothing more is wanted.
-fn print(run: &mut [u32; RUN], stand: Stand, bytes: &[u8], last: bool, out: &mut [u8]) -> Piece
+fn print(
+    rt: &(impl Print + Eprint),
+    run: &mut [u32; RUN],
+    stand: Stand,
+    bytes: &[u8],
+    last: bool,
+    out: &mut [u8],
+) -> Piece
     requires { line_room ≤ length out.old }
     ensures { (result.used ≤ length bytes.now)
         × (result.wants ≡ Wants.Input → length bytes.now < result.used + longest)
@@ -34,47 +41,45 @@ fn print(run: &mut [u32; RUN], stand: Stand, bytes: &[u8], last: bool, out: &mut
 {
     let p = sheet_text::write(run, stand, bytes, last, out);
     let n = p.written;
-    if io::write_all(STDOUT_FILENO, &out[..n]) {
+    if rt.write_all(&out[..n]).is_ok() {
         return p;
     }
-    io::write_all(STDERR_FILENO, b"sheet: the sheet cannot be written\n");
-    let here = p.stand;
+    let _ = rt.eprintln("sheet: the sheet cannot be written");
     Piece {
         used: p.used,
         written: n,
-        stand: here,
+        stand: p.stand,
         wants: Wants::Nothing,
     }
 }
 
 // All pieces of the bytes at hand, until more of the trace is wanted or nothing.
-fn print_all(run: &mut [u32; RUN], stand: Stand, bytes: &[u8], last: bool, out: &mut [u8]) -> Piece
+fn print_all(
+    rt: &(impl Print + Eprint),
+    run: &mut [u32; RUN],
+    stand: Stand,
+    bytes: &[u8],
+    last: bool,
+    out: &mut [u8],
+) -> Piece
     requires { line_room ≤ length out.old }
     ensures { (result.used ≤ length bytes.now) × (result.wants ≡ Wants.Input → length bytes.now < result.used + longest) }
 {
     let mut used: usize = 0;
     let mut here = stand;
     loop {
-        let p = print(&mut *run, here, &bytes[used..], last, out);
+        let p = print(rt, &mut *run, here, &bytes[used..], last, out);
         used += p.used;
         here = p.stand;
         let wants = p.wants;
         match wants {
             Wants::Room => {}
-            Wants::Input => {
+            Wants::Input | Wants::Nothing => {
                 return Piece {
                     used,
                     written: 0,
                     stand: here,
-                    wants: Wants::Input,
-                };
-            }
-            Wants::Nothing => {
-                return Piece {
-                    used,
-                    written: 0,
-                    stand: here,
-                    wants: Wants::Nothing,
+                    wants,
                 };
             }
         }
@@ -82,75 +87,77 @@ fn print_all(run: &mut [u32; RUN], stand: Stand, bytes: &[u8], last: bool, out: 
 }
 
 // Reads once, behind the bytes that are held, and answers how many are held then. Where that fails the trace ends there.
-fn read_more(input: &mut [u8], held: usize) -> usize
+fn read_more(rt: &impl Eprint, trace: &mut impl Read, input: &mut [u8], held: usize) -> usize
     requires { held < length input.old }
     ensures { result ≤ length input.new }
 {
-    let got = libc::read(STDIN_FILENO, &mut input[held..]);
-    if got < 0 {
-        io::write_all(
-            STDERR_FILENO,
-            b"sheet: the trace cannot be read further, and is taken to end there\n",
-        );
+    match trace.read(&mut input[held..]) {
+        Ok(n) => held + n,
+        Err(_) => {
+            let _ = rt.eprintln(
+                "sheet: the trace cannot be read further, and is taken to end there",
+            );
+            held
+        }
     }
-    let n = io::count(got, &input[held..]);
-    held + n
 }
 
 // Reads once, writes all pieces, and keeps the bytes that are not used. Where nothing comes, the trace has ended.
-fn feed(run: &mut [u32; RUN], input: &mut [u8], out: &mut [u8], stand: Stand, held: usize) -> Seat
+fn feed(
+    rt: &(impl Print + Eprint),
+    trace: &mut impl Read,
+    run: &mut [u32; RUN],
+    input: &mut [u8],
+    out: &mut [u8],
+    stand: Stand,
+    held: usize,
+) -> Seat
     requires { (held < longest) × (longest ≤ length input.old) × (line_room ≤ length out.old) }
     ensures { result.held < longest }
 {
-    let filled = read_more(input, held);
+    let filled = read_more(rt, trace, input, held);
     let last = filled == held;
-    let p = print_all(run, stand, &input[..filled], last, out);
-    let used = p.used;
-    let next = p.stand;
-    let wants = p.wants;
-    match wants {
-        Wants::Input => {
-            let kept = sheet_text::keep(input, used, filled);
-            Seat {
-                stand: next,
-                held: kept,
-                over: false,
-            }
-        }
-        Wants::Room => Seat {
-            stand: next,
-            held: 0,
-            over: true,
+    let p = print_all(rt, run, stand, &input[..filled], last, out);
+    match p.wants {
+        Wants::Input => Seat {
+            stand: p.stand,
+            held: sheet_text::keep(input, p.used, filled),
+            over: false,
         },
-        Wants::Nothing => Seat {
-            stand: next,
+        Wants::Room | Wants::Nothing => Seat {
+            stand: p.stand,
             held: 0,
             over: true,
         },
     }
 }
 
-// A proved loop has to end, and nothing says that the input does. So the loop counts its turns down, from a number that no run uses up.
-fn feed_all(run: &mut [u32; RUN], input: &mut [u8], out: &mut [u8])
+// A proved loop has to end, and nothing says that the input does. So the loop counts its turns, up to a number that no run comes to.
+fn feed_all(
+    rt: &(impl Print + Eprint),
+    trace: &mut impl Read,
+    run: &mut [u32; RUN],
+    input: &mut [u8],
+    out: &mut [u8],
+)
     requires { (longest ≤ length input.old) × (line_room ≤ length out.old) }
 {
     let mut stand = sheet_text::begin(&mut *run);
     let mut held: usize = 0;
-    let mut turns = u64::MAX;
-    while turns > 0 {
-        let s = feed(&mut *run, input, out, stand, held);
+    for _ in 0..u64::MAX {
+        let s = feed(rt, trace, &mut *run, input, out, stand, held);
         if s.over {
             return;
         }
         stand = s.stand;
         held = s.held;
-        turns -= 1;
     }
 }
 
-fn main() {
+fn main(rt: HostRuntime) {
     let mut run = [0u32; RUN];
     let mut input = [0u8; INPUT];
     let mut out = [0u8; OUTPUT];
-    feed_all(&mut run, &mut input, &mut out);
+    let mut trace = rt.stdin();
+    feed_all(&rt, &mut trace, &mut run, &mut input, &mut out);
 }
