@@ -10,7 +10,7 @@ ghost use Rattle.lines.specs.Claims.{ahead};
 
 use lines::{Piece, Stand, Wants};
 use machine::RUN;
-use std::io::Read;
+use std::io::{ErrorKind, Read};
 
 // The trace is read, and the sheet written, through 64 KiB in all.
 const INPUT: usize = 49152;
@@ -25,7 +25,7 @@ struct Seat {
     over: bool,
 }
 
-// One piece, written out. Where that fails, nothing more is wanted.
+// One piece, written out. Where that fails, nothing more is wanted; a reader that has enough ends the program without a word.
 fn print(
     rt: &(impl Print + Eprint),
     run: &mut [u32; RUN],
@@ -41,10 +41,14 @@ fn print(
 {
     let p = sheet_text::write(run, stand, bytes, last, out);
     let n = p.written;
-    if rt.write_all(&out[..n]).is_ok() {
-        return p;
+    match rt.write_all(&out[..n]) {
+        Ok(()) => return p,
+        Err(e) => {
+            if e.kind() != ErrorKind::BrokenPipe {
+                let _ = rt.eprintln("sheet: the sheet cannot be written");
+            }
+        }
     }
-    let _ = rt.eprintln("sheet: the sheet cannot be written");
     Piece {
         used: p.used,
         written: n,

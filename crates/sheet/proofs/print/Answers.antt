@@ -3,5 +3,5 @@
 use Rattle.sheet.proofs.Printing.{printed}
 use Rattle.sheet.proofs.print.Goals as goal
 
-pub returns-then-is_ok : goal.returns-then-is_ok
-returns-then-is_ok g c = printed _ _ _ c.requires c.write-p.ensures
+pub returns-in-Ok : goal.returns-in-Ok
+returns-in-Ok g c = printed _ _ _ c.requires c.write-p.ensures
