@@ -1,30 +1,22 @@
-"""What a script needs to build and run x86-64 programs on this machine, whatever kind of machine it is.
+"""What a script needs to build the archive and the programs with the Rattle kit, and C beside them.
 
-The kit compiles for x86-64. On such a machine its programs run as they are; elsewhere they run under the kit's emulator, and C is compiled by
-gcc-x86-64-linux-gnu. A tool that is missing is installed where this is a Debian machine's root.
+The kit compiles for x86-64 Linux and runs there alone, so what is built runs where it is built. A tool that is missing is installed where this is a Debian
+machine's root.
 """
 
 import os
 import pathlib
-import platform
 import shutil
 import subprocess
 import sys
 import tempfile
-
-MACHINE = platform.machine()
-NATIVE = MACHINE == "x86_64"
 
 
 def kit():
     """The folder of the Rattle kit."""
     if not shutil.which("rt"):
         sys.exit("the Rattle kit ('rt') must be on the PATH")
-    return pathlib.Path(subprocess.run(["rt", "doc"], check=True, capture_output=True, text=True).stdout.strip()).parent.parent
-
-
-def toolchain():
-    return kit() / "on" / MACHINE / "toolchain"
+    return pathlib.Path(subprocess.run(["rt", "doc"], check=True, capture_output=True, text=True).stdout.strip()).parent
 
 
 def needed(name, *packages):
@@ -38,28 +30,13 @@ def needed(name, *packages):
 
 
 def compiler():
-    """A C compiler for x86-64: $CC, or gcc."""
-    if "CC" in os.environ:
-        return needed(os.environ["CC"])
-    return needed("gcc", "gcc", "libc6-dev") if NATIVE else needed("x86_64-linux-gnu-gcc", "gcc-x86-64-linux-gnu", "libc6-dev-amd64-cross")
-
-
-def starter():
-    """The words before an x86-64 program's own."""
-    if NATIVE:
-        return []
-    tools = toolchain()
-    return [tools / "bin" / "qemu-x86_64", tools / "lib" / "ld-linux-x86-64.so.2", "--library-path", tools / "lib"]
-
-
-def preloaded(library, program):
-    """The words that start an x86-64 program with a library of ours beside it, loaded first."""
-    return ["env", f"LD_PRELOAD={library}", program] if NATIVE else [*starter(), "--preload", library, program]
+    """A C compiler: $CC, or gcc."""
+    return needed(os.environ["CC"]) if "CC" in os.environ else needed("gcc", "gcc", "libc6-dev")
 
 
 def sources(top):
     """All that the crates are made of."""
-    return [source for kind in ("rt", "antt") for source in top.glob(f"crates/**/*.{kind}")]
+    return [top / "crates.txt", *(source for part in ("src/**/*.rt", "specs/**/*.antt", "proofs/**/*.antt") for source in top.glob(f"crates/*/{part}"))]
 
 
 def newer(made, made_of):
@@ -67,59 +44,63 @@ def newer(made, made_of):
     return made.exists() and all(source.stat().st_mtime < made.stat().st_mtime for source in made_of)
 
 
-def static_library(top, name):
-    """The path of the crate's archive. Where it is not there or older than a source, the crate is proved and the archive made."""
-    archive = top / "target" / "staticlib" / f"lib{name}.a"
-    if not newer(archive, sources(top)):
-        done = subprocess.run(["rt", "staticlib", name], cwd=top, capture_output=True, text=True)
-        if done.returncode != 0:
-            sys.exit(f"rt staticlib {name} failed:\n{done.stdout}{done.stderr}")
-        archive.touch()
-    return archive
-
-
-def program(top, name):
-    """The path of the crate's program. Where it is not there or older than a source, all that it stands on is proved and it is made."""
-    made = top / "target" / "bin" / name
+def built(top, name, made, words):
+    """The path of what is made of the crate, in its out/. Where it is not there or older than a source, all that it stands on is proved and it is made."""
+    made = top / "crates" / name / "out" / made
     if not newer(made, sources(top)):
-        print(f"{name}: the program is built, and all that it stands on is proved: some minutes, once", file=sys.stderr)
-        done = subprocess.run(["rt", "check", name], cwd=top, stdout=subprocess.PIPE, stderr=subprocess.STDOUT, text=True)
-        if done.returncode != 0:
-            sys.exit(f"{done.stdout[-4000:]}{name}: it could not be built ('rt check {name}' gives {done.returncode})")
-        if not made.exists():
-            sys.exit(f"{name}: target/ is not whole; remove it, and call again")
+        kit()
+        print(f"{made.name} is built, and all that it stands on is proved: some minutes, once", file=sys.stderr)
+        done = subprocess.run(words, cwd=top / "crates" / name, stdin=subprocess.DEVNULL, capture_output=True, text=True)
+        if done.returncode != 0 or not made.exists():
+            sys.exit(f"{(done.stdout + done.stderr)[-4000:]}{made.name}: it could not be built ('{' '.join(words)}' in crates/{name} gives {done.returncode})")
         made.touch()
     return made
 
 
-def own_object(top, name, out, command="staticlib", extra=()):
-    """The crate's code compiled for this machine itself: the very LLVM module that the kit's compiler is given. For a program the command is 'try'.
-    The extra words go to the compiler."""
-    real = toolchain()
+# the archive's code is for every x86-64 processor, since nothing asks where it is linked; a program asks as it starts for what the kit's default wants
+ARCHIVE = ["rt", "lib", "--cpu=x86-64"]
+
+
+def archive(top):
+    """The archive of the C call."""
+    return built(top, "tongsparkle_c", "libtongsparkle_c.a", ARCHIVE)
+
+
+def program(top, name):
+    """The crate's program. To make it, 'rt run' also runs it once, without input."""
+    return built(top, name, name, ["rt", "run"])
+
+
+def sanitized(top, out):
+    """The C call's code compiled for the address sanitizer: the very LLVM module that the kit's compiler is given, with every function of it marked, since
+    clang looks after those that are marked and the kit marks none."""
+    real = kit()
     with tempfile.TemporaryDirectory() as home:
         home = pathlib.Path(home)
-        tools = home / "on" / MACHINE / "toolchain"
-        (tools / "bin").mkdir(parents=True)
-        # a kit of links, but for one program: a compiler that keeps what it is given
-        for there, here in ((kit(), home), (real.parent, tools.parent), (real, tools), (real / "bin", tools / "bin")):
-            for entry in there.iterdir():
-                if not (here / entry.name).exists() and entry != real / "bin" / "clang":
-                    (here / entry.name).symlink_to(entry)
-        module = home / "module.bc"
-        keeper = tools / "bin" / "clang"
-        # 'rt try' compiles more than once; the module that counts is the one for -O3
-        keeper.write_text(
-            f"""#!/bin/sh
-case " $* " in *" -O3 "*) for word in "$@"; do case $word in *.bc) cp "$word" {module} ;; esac; done ;; esac
-exec {real}/bin/clang "$@"
-"""
-        )
+        (home / "kit" / "toolchain" / "bin").mkdir(parents=True)
+        (home / "kit" / "bin").mkdir()
+        # a kit of links, but for its command, which goes by where it is itself, and for one program: a compiler that keeps what it is given
+        for part in ("", "bin", "toolchain", "toolchain/bin"):
+            for entry in (real / part).iterdir():
+                here = home / "kit" / part / entry.name
+                if entry.name in ("rt", "rtlib.py"):
+                    shutil.copy(entry, here)
+                elif not here.exists() and entry != real / "toolchain" / "bin" / "clang":
+                    here.symlink_to(entry)
+        module, clang = home / "module.bc", real / "toolchain" / "bin" / "clang"
+        keeper = home / "kit" / "toolchain" / "bin" / "clang"
+        keeper.write_text(f"""#!/bin/sh
+for word in "$@"; do case $word in *.bc) cp "$word" {module} ;; esac; done
+exec {clang} "$@"
+""")
         keeper.chmod(0o755)
-        done = subprocess.run(["rt", command, name], cwd=top, env={**os.environ, "RATTLE_HOME": str(home)}, capture_output=True, text=True)
+        archive(top)
+        done = subprocess.run([home / "kit" / "bin" / "rt", *ARCHIVE[1:]], cwd=top / "crates" / "tongsparkle_c", capture_output=True, text=True)
         if done.returncode != 0 or not module.exists():
-            sys.exit(f"the LLVM module of {name} could not be had:\n{done.stdout}{done.stderr}")
-        words = [real / "bin" / "clang", f"--target={MACHINE}-unknown-linux-gnu", "-O3", "-fPIC", "-Wno-override-module", *extra]
-        done = subprocess.run([*words, "-c", "-x", "ir", module, "-o", out], capture_output=True, text=True)
+            sys.exit(f"the LLVM module of the C call could not be had:\n{done.stdout}{done.stderr}")
+        words = [clang, "--target=x86_64-unknown-linux-gnu", "-O3", "-fPIC", "-Wno-override-module", "-fsanitize=address"]
+        words += ["-mllvm", "-force-attribute=sanitize_address", "-c", "-x", "ir", module, "-o", out]
+        done = subprocess.run(words, capture_output=True, text=True)
         if done.returncode != 0:
-            sys.exit(f"the LLVM module of {name} does not compile for {MACHINE}:\n{done.stderr}")
+            sys.exit(f"the LLVM module of the C call does not compile for the address sanitizer:\n{done.stderr}")
     return out
