@@ -1,7 +1,7 @@
-/* Lets a program run many times for one loading of it. Loaded beside the program (by the loader's --preload), it acts before the program's main: for each
-   trace that comes in by standard input it makes a copy of the process, which goes on into main with the trace as its standard input and a file in
-   memory as its standard output; how that ended and what it wrote go out by standard output. So each trace has the program from its start, and the
-   loading, which is slow under emulation, is done once. */
+/* Lets a program run many times for one loading of it. Loaded beside the program (by LD_PRELOAD), it acts before the program's main: for each trace that
+   comes in by standard input it makes a copy of the process, which goes on into main with the trace as its standard input and a file in memory as its
+   standard output; how that ended and what it wrote go out by standard output. So each trace has the program from its start, and the loading is done
+   once. */
 
 #include <sys/mman.h>
 #include <sys/wait.h>
