@@ -188,7 +188,10 @@ def cited(text):
             indent = " " * (len(lines[at]) - len(lines[at].lstrip()))
             while end < len(lines) and re.match(rf"{indent} |$|{indent}(?:unfolding|{re.escape(begun.group(1))})\s|{indent}[}})]", lines[end]):
                 end += 1
-            found.setdefault(begun.group(1), set()).update(re.findall(NAME, "\n".join(lines[at:end])))
+            # a field that is declared, given or read is not cited: of a name with points behind it, only what a module has
+            words = re.findall(r"[^\s(){},;:`]+", re.sub(rf"{NAME}(?= [:=] )", "", "\n".join(lines[at:end])))
+            names = (word.split(".")[: None if word[0].isupper() else 1] for word in words)
+            found.setdefault(begun.group(1), set()).update(name for parts in names for name in parts)
         at = end
     return found
 
