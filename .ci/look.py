@@ -43,7 +43,7 @@ ASSUMED = {
 # in a promise that is one equation or one name: names, numbers and brackets, and no sign that could join two facts
 PLAIN = r"[\w\s.()\[\]]+"
 # names in the documents that no crate declares: of the kit, of programs and tests, and a variable of the rule
-OTHERS = {"rt", "use", "requires", "ensures", "mathlib", "Memᴰ", "Among", "open", "stdout", "differ", "random", "ms"}
+OTHERS = {"rt", "use", "requires", "ensures", "mathlib", "Memᴰ", "Among", "errno", "strerror_r", "open", "stdout", "differ", "random", "ms"}
 
 
 def functions():
