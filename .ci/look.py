@@ -234,7 +234,7 @@ def replaced(edit, crate):
             old = text
         elif word.startswith("new"):
             if file.read_text().count(old) != 1:
-                sys.exit(f"{edit.name}: what it changes does not stand in {file.name} once")
+                raise ValueError(f"what it changes does not stand in {file.name} once")
             file.write_text(file.read_text().replace(old, text))
 
 
@@ -254,6 +254,8 @@ def checked(rooms, label, crate):
             if (here / part).exists():
                 shutil.copytree(here / part, there / part)
         return done.stdout
+    except ValueError as error:
+        return f"{error}\n"
     finally:
         rooms.put(room)
 
@@ -267,23 +269,24 @@ def refused():
             own = [name for name, crate in theorems if crate == tried.get(label)]
             if own:
                 rows.setdefault(label, []).append(own)
+    # a check takes up to 3 GB
+    free = re.search(r"^MemAvailable: +(\d+) kB$", pathlib.Path("/proc/meminfo").read_text(), re.M)
+    at_once = min(os.cpu_count(), max(1, int(free.group(1)) // 3_000_000 if free else 1))
     with tempfile.TemporaryDirectory() as folder:
-        # a check takes up to 3 GB
-        at_once = min(os.cpu_count(), max(1, os.sysconf("SC_AVPHYS_PAGES") * os.sysconf("SC_PAGE_SIZE") // 3_000_000_000))
         rooms = queue.Queue()
         for number in range(at_once):
             room = pathlib.Path(folder) / str(number)
             (room / ".git").mkdir(parents=True)
             shutil.copy(TOP / "crates.txt", room)
-            leave = shutil.ignore_patterns("incremental", "must-fail", "*_tests*")
-            shutil.copytree(TOP / "crates", room / "crates", ignore=leave, copy_function=linked)
+            # of what was made, the libraries alone
+            shutil.copytree(TOP / "crates", room / "crates", ignore=lambda at, names: {*names} - {"rlib"} if at.endswith("/out") else [], copy_function=linked)
             rooms.put(room)
         with concurrent.futures.ThreadPoolExecutor(at_once) as pool:
             said = dict(zip(rows, pool.map(lambda label: checked(rooms, label, tried[label]), rows)))
     for label, each in rows.items():
         names = refusals(TOP / "crates" / tried[label], said[label])
-        if not re.search(r"^logic=not-proved", said[label], re.M):
-            yield f"{label} was not tried:\n{said[label][-2000:]}"
+        if not re.search(r"^logic=not-proved", said[label], re.M) or re.search(r"^(?:\./)?(?:src|specs)/\S+: error", said[label], re.M):
+            yield f"{label} was not tried, or is refused as it is written:\n{said[label][-2000:]}"
             continue
         for own in each:
             if not names & set(own):
@@ -293,22 +296,26 @@ def refused():
 def assumed():
     log = TOP / "target" / "ci.log"
     proved = re.findall(r"^rt: (\w+) (?:proved|is kept: an earlier run on this machine proved the same files)\b", log.read_text() if log.exists() else "", re.M)
-    for line in (TOP / "crates.txt").read_text().splitlines():
-        name = line.split("#")[0].partition(":")[0].split(" ")[0]
-        if name and name not in proved:
+    rows = [line.partition("#")[0].partition(":") for line in (TOP / "crates.txt").read_text().splitlines()]
+    below = {names.split()[0]: used.split() for names, _, used in rows if names.strip()}
+    # only where code is made for a machine does the checker count what the whole of it rests on
+    made = [names.split()[0] for names, _, _ in rows if names.strip() and ("staticlib" in names.split() or (TOP / "crates" / names.split()[0] / "src/main.rt").exists())]
+    for name in below:
+        if name not in proved:
             yield f"{name} is not known to be proved: `rt ci` has not said so in {log.relative_to(TOP)}"
-    for name, allowed in ASSUMED.items():
+        if name not in made and not any(name in below[other] for other in made):
+            yield f"what {name} rests on is counted nowhere: it is in no archive and in no program"
+    for name in made:
         done = subprocess.run(["rt", "check"], cwd=TOP / "crates" / name, stdin=subprocess.DEVNULL, stdout=subprocess.PIPE, stderr=subprocess.STDOUT, text=True)
         last = re.findall(r"^logic=proved .*$", done.stdout, re.M)[-1:]
         if done.returncode != 0 or not last:
             yield f"{name} is not proved by its check:\n{done.stdout[-2000:]}"
             continue
-        # only where code is made for a machine does the checker count what the whole of it rests on
         if " target=" not in last[0] or not re.search(r"^axioms std: ", done.stdout, re.M):
             yield f"what {name} rests on was not counted"
         rests = {axiom for axioms in re.findall(r"^axioms \S+ (?!none )(.*?) \(", done.stdout, re.M) for axiom in axioms.split(", ")}
         counted = sum(map(int, re.findall(r" axioms=(\d+)", last[0])))
-        if rests != allowed or counted != len(rests) or " foreign=" in done.stdout:
+        if rests != ASSUMED.get(name, set()) or counted != len(rests) or " foreign=" in done.stdout:
             yield f"{name} rests on {sorted(rests)}, counted as {counted}"
 
 
