@@ -271,7 +271,11 @@ def refused():
                 rows.setdefault(label, []).append(own)
     # a check takes up to 3 GB
     free = re.search(r"^MemAvailable: +(\d+) kB$", pathlib.Path("/proc/meminfo").read_text(), re.M)
-    at_once = min(os.cpu_count(), max(1, int(free.group(1)) // 3_000_000 if free else 1))
+    at_once = min(len(os.sched_getaffinity(0)), max(1, int(free.group(1)) // 3_000_000 if free else 1))
+    # what a check of the crate as it stands keeps, for those of its edits to begin with
+    for crate in sorted({tried[label] for label in rows}):
+        if not (TOP / "crates" / crate / "out" / "incremental").exists():
+            subprocess.run(["rt", "check"], cwd=TOP / "crates" / crate, stdin=subprocess.DEVNULL, stdout=subprocess.DEVNULL, stderr=subprocess.DEVNULL)
     with tempfile.TemporaryDirectory() as folder:
         rooms = queue.Queue()
         for number in range(at_once):
