@@ -3,8 +3,9 @@
 
 A name in camel case (`mostProcesses`) or with dashes (`has-union`) that a file of specs/ or proofs/ declares gets underscores, wherever it stands in
 .antt files, contracts and must-fail edits. Where a lemma and the definition that it speaks of would fall together, the lemma ends in `_lem`. Names of
-src/, types, modules, strings and the files of must-fail/ keep their names; names that Rattle gives the goals of a function are not ours and stay.
-Must-fail edits also get what port.py does to contracts: paths, tight projections, and the library's words."""
+src/, types, modules, strings and the files of must-fail/ keep their names; names that Rattle gives the goals of a function are not ours and stay. Names
+are found as words, wherever they stand; so this is made for the repository as it was then, and for no other. Must-fail edits of definitions also get
+what port.py does to contracts: paths, tight projections, the library's words, and, word by word, the few places of them that need more than that."""
 import collections
 import glob
 import os
