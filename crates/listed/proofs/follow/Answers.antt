@@ -1,3 +1,5 @@
+-- What is left to show of `follow`; Invariants.antt says how it goes.
+-- Assumes nothing.
 use Rattle.std.proofs.Common.{refl, arith}
 use Rattle.listed.specs.declared.Kind.TheVariants.{Send}
 use Rattle.listed.proofs.Turning.{stops, goes_on, ends}

@@ -22,28 +22,28 @@ six = send 0 0 ∷ send 0 1 ∷ receive 0 0 ∷ send 1 0 ∷ receive 0 1 ∷ ste
 abbrev ended : Config
 ended = night 2 seven_and_four trace1
 
-six-are : {a b d e f g : Event} → a ≡ send 0 0 → b ≡ send 0 1 → d ≡ receive 0 0 → e ≡ send 1 0 → f ≡ receive 0 1 → g ≡ step 0
+six_are : {a b d e f g : Event} → a ≡ send 0 0 → b ≡ send 0 1 → d ≡ receive 0 0 → e ≡ send 1 0 → f ≡ receive 0 1 → g ≡ step 0
     → (a ∷ b ∷ d ∷ e ∷ f ∷ g ∷ []) ≡ six
-six-are h₁ h₂ h₃ h₄ h₅ h₆ = rw (h₁, h₂, h₃, h₄, h₅, h₆)
+six_are h₁ h₂ h₃ h₄ h₅ h₆ = rw (h₁, h₂, h₃, h₄, h₅, h₆)
 
-number-ended : {r : ℕ} {es : List Event} → es ≡ six → r ≡ number_of (night_verdict 2 seven_and_four (events_of es)) → r ≡ 0
+number_ended : {r : ℕ} {es : List Event} → es ≡ six → r ≡ number_of (night_verdict 2 seven_and_four (events_of es)) → r ≡ 0
 unfolding run open_verdict night_verdict event event_of events_of
-number-ended {r} e h = subst (λ (es : List Event). r ≡ number_of (night_verdict 2 seven_and_four (events_of es))) e h
+number_ended {r} e h = subst (λ (es : List Event). r ≡ number_of (night_verdict 2 seven_and_four (events_of es))) e h
 
-shows-ended : {m : Mem} {es : List Event} → es ≡ six → Shows m (night 2 seven_and_four (events_of es)) → Shows m ended
+shows_ended : {m : Mem} {es : List Event} → es ≡ six → Shows m (night 2 seven_and_four (events_of es)) → Shows m ended
 unfolding event event_of events_of
-shows-ended {m} e s = subst (λ (es : List Event). Shows m (night 2 seven_and_four (events_of es))) e s
+shows_ended {m} e s = subst (λ (es : List Event). Shows m (night 2 seven_and_four (events_of es))) e s
 
 pub returns : goal.returns
 unfolding run standing open_verdict night
 returns c =
     let same =
-    six-are c.send.ensures c.send-2.ensures
+    six_are c.send.ensures c.send-2.ensures
     c.receive.ensures c.send-3.ensures c.receive-2.ensures c.step.ensures in
     let promise = c.replay_six-number.ensures in
-    let shows = shows-ended same promise.2 in
+    let shows = shows_ended same promise.2 in
     rw (
-      number-ended same promise.0,
+      number_ended same promise.0,
       c.events-accepted.ensures.meaning ended shows,
       c.site-first.ensures.meaning ended shows (lit< tt),
       c.site-second.ensures.meaning ended shows (lit< tt),

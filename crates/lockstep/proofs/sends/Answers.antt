@@ -1,3 +1,5 @@
+-- What is left to show of `sends`; Invariants.antt says how it goes.
+-- Assumes nothing.
 use native.Mathlib.Omega.{arith}
 use mathlib.Core.Path.{◌≡◌}
 use Rattle.rounds.specs.Limits.{most_processes}

@@ -1,3 +1,5 @@
+-- What is left to show of `close`; Invariants.antt says how it goes.
+-- Assumes nothing.
 use Prim.Native.Nat.{ℕ, ◌+◌, ◌≤◌, ◌<◌}
 use native.Mathlib.Omega.{arith}
 use mathlib.Core.Path.{◌≡◌}

@@ -1,3 +1,5 @@
+-- What is left to show of `follow`; Invariants.antt says how it goes.
+-- Assumes nothing.
 use native.Mathlib.Omega.{arith}
 use Rattle.sheet_text.proofs.Writing.{wrote_length}
 use Rattle.sheet_text.proofs.Pacing.{none_gone, full_came, hastened, took, goes_far, goes_on, ends_came, more_came, last_came}

@@ -1,3 +1,5 @@
+-- What is left to show of `shift`; Invariants.antt says how it goes.
+-- Assumes nothing.
 use native.Mathlib.Omega.{arith}
 use mathlib.Core.Path.{refl}
 use Rattle.sheet_text.proofs.Shifting.{moved, all_moved}

@@ -1,3 +1,5 @@
+-- What is left to show of `fill`; Invariants.antt says how it goes.
+-- Assumes nothing.
 use Prim.Native.Nat.{ℕ, ◌+◌, ◌*◌, ◌<◌}
 use native.Mathlib.Omega.{arith}
 use native.Mathlib.Numerals.{add-one}
@@ -8,6 +10,7 @@ use lib.Seq.{take-suc-set}
 use Rattle.records.specs.Script.{word, words}
 use Rattle.trace.proofs.fill.Goals as goal
 
+-- one word more
 filled : (v b : List ℕ) (i x : ℕ) → i < length v → take i v ≡ words i b → x ≡ word b (4 * i) → take (i + 1) (set v i x) ≡ words (i + 1) b
 unfolding words
 filled v b i x l e q = rw (add-one, take-suc-set v i x l, e, q)

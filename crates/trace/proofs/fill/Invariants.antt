@@ -1,6 +1,5 @@
 -- `fill` goes over the words of the bytes; before each, the values so far are the words so far.
 -- Assumes nothing.
--- one word more
 use Prim.Native.Nat.{◌-◌, ◌≤◌, ◌<◌}
 use mathlib.Core.Path.{◌≡◌}
 use lib.ListN.{length, take}

@@ -1,3 +1,5 @@
+-- What is left to show of `hasten_all`; Invariants.antt says how it goes.
+-- Assumes nothing.
 use native.Mathlib.Omega.{arith}
 use Rattle.trace.proofs.Hastening.{not_yet, hastens_far, hastens_on, hastens_no_more}
 use Rattle.trace.proofs.hasten_all.Goals as goal

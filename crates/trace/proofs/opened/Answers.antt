@@ -1,6 +1,5 @@
 -- `opened` begins the run and goes on where that is accepted.
 -- Assumes nothing.
--- the values stand behind the first four bytes
 use Prim.Native.Nat.{ℕ, ◌+◌, ◌*◌, ◌-◌}
 use native.Mathlib.Omega.{arith}
 use mathlib.Core.Path.{◌≡◌}
@@ -15,8 +14,9 @@ use Rattle.trace.specs.Turns.{on_opening}
 use borrow.Author.Rules.{rules}
 use Rattle.trace.proofs.opened.Goals as goal
 
-values-part : (used n : ℕ) (w : List ℕ) → used ≡ 4 + 4 * n → take (used - 4) (drop 4 w) ≡ take (4 * n) (drop 4 w)
-values-part used n w e = let q : used - 4 ≡ 4 * n = omega arith in rw q
+-- the values stand behind the first four bytes
+values_part : (used n : ℕ) (w : List ℕ) → used ≡ 4 + 4 * n → take (used - 4) (drop 4 w) ≡ take (4 * n) (drop 4 w)
+values_part used n w e = let q : used - 4 ≡ 4 * n = omega arith in rw q
 
 pub slice_bounds-begin-count : goal.slice_bounds-begin-count
 unfolding extent
@@ -40,12 +40,12 @@ pub returns-then-number-eq0 : goal.returns-then-number-eq0
 unfolding on_opening if_accepted accepted values_of extent
 returns-then-number-eq0 c =
     let used = c.extent-used.ensures in
-    let made = rw (values-part _ _ _ used) at c.begin-judged.ensures in
+    let made = rw (values_part _ _ _ used) at c.begin-judged.ensures in
     (rw (← made.0, ← c.number.ensures, eq-eqb _ _ c.if-number-eq0.true, used), made.1)
 
 pub returns : goal.returns
 unfolding on_opening if_accepted accepted values_of extent
 returns c =
     let used = c.extent-used.ensures in
-    let made = rw (values-part _ _ _ used) at c.begin-judged.ensures in
+    let made = rw (values_part _ _ _ used) at c.begin-judged.ensures in
     (rw (← made.0, ← c.number.ensures, ne_eqb _ _ c.if-number-eq0.false), made.1)

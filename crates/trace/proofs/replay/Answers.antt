@@ -1,3 +1,5 @@
+-- What is left to show of `replay`; Invariants.antt says how it goes.
+-- Assumes nothing.
 use native.Mathlib.Omega.{arith}
 use mathlib.Core.Path.{◌∙◌}
 use Rattle.trace.proofs.Looping.{hastened, taken, goes_far, goes_on, more_last, ends_last}

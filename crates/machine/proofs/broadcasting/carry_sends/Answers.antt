@@ -1,3 +1,5 @@
+-- What is left to show of `carry_sends`; Invariants.antt says how it goes.
+-- Assumes nothing.
 use Rattle.std.proofs.Common.{◌≡◌, refl, add-one, arith, rules}
 use Rattle.words.specs.Calls.{sent_below}
 use Rattle.machine.proofs.broadcasting.carry_sends.Goals as goal

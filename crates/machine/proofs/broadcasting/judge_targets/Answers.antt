@@ -1,3 +1,5 @@
+-- What is left to show of `judge_targets`; Invariants.antt says how it goes.
+-- Assumes nothing.
 use Rattle.std.proofs.Common.{◌≡◌, refl, add-one, arith, rules}
 use Rattle.rounds.specs.Verdicts.{first_refusal}
 use Rattle.machine.proofs.broadcasting.judge_targets.Goals as goal

@@ -1,3 +1,5 @@
+-- What is left to show of `clear`; Invariants.antt says how it goes.
+-- Assumes nothing.
 use Rattle.std.proofs.Common.{◌≡◌, ℕ, length, replicate, refl, ap, ◌∙◌, add-one, arith, rules}
 use Rattle.words.specs.Calls.{blank}
 use Rattle.words.proofs.Meaning.{clear_meant}

@@ -1,3 +1,5 @@
+-- What is left to show of `place_all`; Invariants.antt says how it goes.
+-- Assumes nothing.
 use Rattle.std.proofs.Common.{◌≡◌, length, refl, add-one, arith, rules}
 use Rattle.words.specs.Calls.{placed_below}
 use Rattle.machine.proofs.opening.place_all.Goals as goal

@@ -1,12 +1,12 @@
 -- `hear` adds the message and the reach that it carries where the sender was heard, and nothing where it was not.
 -- Assumes nothing.
--- what the test of a set that was read tells
 use Rattle.std.proofs.Common.{◌≡◌, ℕ, Bool, sym, ap, ◌∙◌}
 use Rattle.sets.specs.Sets.{has}
 use Rattle.words.specs.Spelled.{carried_of}
 use Rattle.machine.proofs.Heard.{tally_heard, reach_heard, tally_unheard, reach_unheard}
 use Rattle.machine.proofs.stepping.hear.Goals as goal
 
+-- what the test of a set that was read tells
 told : (q : ℕ) {s w : ℕ} {a t : Bool} → s ≡ w → a ≡ has s q → a ≡ t → has w q ≡ t
 told q e f g = ap (λ (s : ℕ). has s q) (sym e) ∙ sym f ∙ g
 

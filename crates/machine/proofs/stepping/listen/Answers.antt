@@ -1,3 +1,5 @@
+-- What is left to show of `listen`; Invariants.antt says how it goes.
+-- Assumes nothing.
 use Rattle.std.proofs.Common.{◌≡◌, ◌∙◌, add-one, arith, rules}
 use Rattle.machine.proofs.Heard.{tally_none, reach_none}
 use Rattle.machine.proofs.stepping.listen.Goals as goal

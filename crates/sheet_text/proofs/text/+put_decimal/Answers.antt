@@ -1,3 +1,5 @@
+-- What is left to show of `put_decimal`; Invariants.antt says how it goes.
+-- Assumes nothing.
 use native.Mathlib.Omega.{arith}
 use Rattle.sheet_text.proofs.Decimals.{one_fits, one_wrote, two_fits, two_wrote, head_fits, last_fits, last_wrote}
 use Rattle.sheet_text.proofs.text.+put_decimal.Goals as goal
