@@ -1,58 +1,45 @@
 -- What the code of the rule goes by: a tally of the messages heard, and the rule on a tally.
 -- Assumes nothing.
-use Rattle.std.specs.Prelude.{ℕ, min, Bool, true, false, cond, List, [], ◌∷◌, eqb}
-use Rattle.voting.specs.declared.Choice.{Choice}
-use Rattle.voting.specs.declared.Choice.TheVariants.{Absent, Present}
+use Rattle.std.specs.Prelude.{ℕ, min, Bool, true, false, cond, ◌&&◌, List, [], ◌∷◌, eqb, Option, Some, None, unwrap_or}
+use Rattle.std.specs.Option.{option_or}
 use Rattle.voting.specs.declared.Message.{Message}
 use Rattle.voting.specs.declared.Holding.{Holding}
+use Rattle.voting.specs.declared.Poll.{Poll}
 use Rattle.voting.specs.declared.Tally.{Tally}
 use Rattle.voting.specs.Voting.{odd}
 
--- ---- some numbers, of which a is the least: none where some is false
--- the least with b beside them
-unfoldable pub lesser : Bool → ℕ → ℕ → ℕ
-lesser some a b = cond some (min a b) b
+-- ---- a poll: of some choices the least that is present, and whether all are present and the same
+-- no choices
+unfoldable pub nothing : Poll
+nothing = record { least = None; same = true }
 
--- whether all are the same with b beside them, where same says it of them
-unfoldable pub still : Bool → Bool → ℕ → ℕ → Bool
-still some same a b = cond some (cond same (eqb a b) false) same
+-- the least with x beside it
+unfoldable pub lesser : Option ℕ → ℕ → ℕ
+lesser None x = x
+lesser (Some a) x = min a x
 
--- the least, or y where there is none
-unfoldable pub value_or : Bool → ℕ → ℕ → ℕ
-value_or some a y = cond some a y
+-- whether x is the same as the least, or stands alone
+unfoldable pub agrees : Option ℕ → ℕ → Bool
+agrees None x = true
+agrees (Some a) x = eqb a x
+
+-- one more choice
+unfoldable pub with : Poll → Option ℕ → Poll
+with t None = record { least = t.least; same = false }
+with t (Some x) = record { least = Some (lesser t.least x); same = t.same && agrees t.least x }
 
 -- what all of them are, or c where they differ and where there are none
-unfoldable pub choice_or : Bool → Bool → ℕ → Choice → Choice
-choice_or some same a c = cond some (cond same (Present a) c) c
+unfoldable pub agreed_or : Poll → Option ℕ → Option ℕ
+agreed_or t c = cond t.same (option_or t.least c) c
 
 -- ---- the tally
 -- nothing was heard
 unfoldable pub silence : Tally
-silence = record { heard = false; least = 0; same = true; voted = false; least_vote = 0; agreed = true }
+silence = record { values = nothing; votes = nothing }
 
--- one more message was heard, of this value and this vote
-unfoldable pub hear_both : Tally → ℕ → Choice → Tally
-hear_both t v Absent =
-    record {
-      heard = true;
-      least = lesser t.heard t.least v;
-      same = still t.heard t.same t.least v;
-      voted = t.voted;
-      least_vote = t.least_vote;
-      agreed = false;
-    }
-hear_both t v (Present x) =
-    record {
-      heard = true;
-      least = lesser t.heard t.least v;
-      same = still t.heard t.same t.least v;
-      voted = true;
-      least_vote = lesser t.voted t.least_vote x;
-      agreed = still t.voted t.agreed t.least_vote x;
-    }
-
+-- one more message was heard
 unfoldable pub hear : Tally → Message → Tally
-hear t m = hear_both t m.value m.vote
+hear t m = record { values = with t.values (Some m.value); votes = with t.votes m.vote }
 
 unfoldable pub tally : List Message → Tally
 tally [] = silence
@@ -62,17 +49,17 @@ tally (m ∷ ms) = hear (tally ms) m
 unfoldable pub odd_tally : Holding → Tally → Holding
 odd_tally h t =
     record {
-      value = value_or t.heard t.least h.value;
-      vote = choice_or t.heard t.same t.least h.vote;
+      value = unwrap_or t.values.least h.value;
+      vote = agreed_or t.values h.vote;
       decision = h.decision;
     }
 
 unfoldable pub even_tally : Holding → Tally → Holding
 even_tally h t =
     record {
-      value = value_or t.voted t.least_vote (value_or t.heard t.least h.value);
-      vote = Absent;
-      decision = choice_or t.voted t.agreed t.least_vote h.decision;
+      value = unwrap_or t.votes.least (unwrap_or t.values.least h.value);
+      vote = None;
+      decision = agreed_or t.votes h.decision;
     }
 
 unfoldable pub ruled : ℕ → Holding → Tally → Holding

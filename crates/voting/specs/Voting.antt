@@ -1,62 +1,52 @@
 -- UniformVoting: Algorithm 1 of document 003, as document 01 completes it, on the list of the messages that a process heard.
 -- Each line of the rule names the line of the algorithm that it is. Assumes nothing.
-use Rattle.std.specs.Prelude.{ℕ, ◌%◌, min, Bool, true, false, cond, ◌&&◌, List, [], ◌∷◌, eqb}
-use Rattle.voting.specs.declared.Choice.{Choice}
-use Rattle.voting.specs.declared.Choice.TheVariants.{Absent, Present}
+use Rattle.std.specs.Prelude.{ℕ, ◌%◌, min, Bool, true, false, cond, ◌&&◌, List, [], ◌∷◌, eqb, Option, Some, None, unwrap_or}
+use Rattle.std.specs.Option.{option_or}
 use Rattle.voting.specs.declared.Message.{Message}
 use Rattle.voting.specs.declared.Holding.{Holding}
 
 -- what a process opens with: lines 2 to 4
 unfoldable pub opens : ℕ → Holding
-opens x = record { value = x; vote = Absent; decision = Absent }
+opens x = record { value = x; vote = None; decision = None }
 
 -- what its messages carry, in odd and in even rounds alike: lines 8 and 15
 unfoldable pub message : Holding → Message
 message h = record { value = h.value; vote = h.vote }
 
--- ---- choices
--- the first, or the second where the first is absent
-unfoldable pub or_else : Choice → Choice → Choice
-or_else Absent d = d
-or_else (Present x) d = Present x
-
-unfoldable pub value_or : Choice → ℕ → ℕ
-value_or Absent y = y
-value_or (Present x) y = x
-
+-- ---- choices: a value, a vote or a decision, of which the last two may be absent
 -- the lesser of what is present
-unfoldable pub lesser : Choice → Choice → Choice
-lesser Absent d = d
-lesser (Present x) Absent = Present x
-lesser (Present x) (Present y) = Present (min x y)
+unfoldable pub lesser : Option ℕ → Option ℕ → Option ℕ
+lesser None d = d
+lesser (Some x) None = Some x
+lesser (Some x) (Some y) = Some (min x y)
 
-unfoldable pub same : Choice → Choice → Bool
-same Absent Absent = true
-same Absent (Present y) = false
-same (Present x) Absent = false
-same (Present x) (Present y) = eqb x y
+unfoldable pub same : Option ℕ → Option ℕ → Bool
+same None None = true
+same None (Some y) = false
+same (Some x) None = false
+same (Some x) (Some y) = eqb x y
 
 -- ---- lists of choices
 -- the least that is present; absent where none is
-unfoldable pub least : List Choice → Choice
-least [] = Absent
+unfoldable pub least : List (Option ℕ) → Option ℕ
+least [] = None
 least (c ∷ cs) = lesser c (least cs)
 
-unfoldable pub all_same : Choice → List Choice → Bool
+unfoldable pub all_same : Option ℕ → List (Option ℕ) → Bool
 all_same c [] = true
 all_same c (d ∷ ds) = same c d && all_same c ds
 
 -- what all of them are, present and equal; absent where they differ, where one is absent, and where there are none
-unfoldable pub agreed : List Choice → Choice
-agreed [] = Absent
-agreed (c ∷ cs) = cond (all_same c cs) c Absent
+unfoldable pub agreed : List (Option ℕ) → Option ℕ
+agreed [] = None
+agreed (c ∷ cs) = cond (all_same c cs) c None
 
 -- ---- what the messages heard say
-unfoldable pub values : List Message → List Choice
+unfoldable pub values : List Message → List (Option ℕ)
 values [] = []
-values (m ∷ ms) = Present m.value ∷ values ms
+values (m ∷ ms) = Some m.value ∷ values ms
 
-unfoldable pub votes : List Message → List Choice
+unfoldable pub votes : List Message → List (Option ℕ)
 votes [] = []
 votes (m ∷ ms) = m.vote ∷ votes ms
 
@@ -67,8 +57,8 @@ votes (m ∷ ms) = m.vote ∷ votes ms
 unfoldable pub odd_rule : Holding → List Message → Holding
 odd_rule h ms =
     record {
-      value = value_or (least (values ms)) h.value;
-      vote = or_else (agreed (values ms)) h.vote;
+      value = unwrap_or (least (values ms)) h.value;
+      vote = option_or (agreed (values ms)) h.vote;
       decision = h.decision;
     }
 
@@ -78,9 +68,9 @@ odd_rule h ms =
 unfoldable pub even_rule : Holding → List Message → Holding
 even_rule h ms =
     record {
-      value = value_or (least (votes ms)) (value_or (least (values ms)) h.value);
-      vote = Absent;
-      decision = or_else (agreed (votes ms)) h.decision;
+      value = unwrap_or (least (votes ms)) (unwrap_or (least (values ms)) h.value);
+      vote = None;
+      decision = option_or (agreed (votes ms)) h.decision;
     }
 
 -- lines 6 and 13
