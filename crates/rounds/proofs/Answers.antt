@@ -9,30 +9,24 @@ use lib.Dec.{eqb, ltb}
 use borrow.Author.Tests.{eqb-true, eqb-false, ltb-false, leb-false, not-false, le-ltb, lt-leb, eq-eqb, ne_eqb}
 use Rattle.rounds.specs.declared.Event.{Event}
 use Rattle.rounds.specs.declared.Event.TheVariants.{Send, Receive, Step, Broadcast}
-use Rattle.rounds.specs.declared.Verdict.{Verdict}
-use Rattle.rounds.specs.declared.Verdict.TheVariants.{Accepted, BadSize, NoProcess, AlreadySent, TooFarAhead, NothingInTransit, NotSentToAll, LastRound, TooManyEvents, WrongCount}
+use Rattle.std.specs.Prelude.{Ok, Err}
+use Rattle.rounds.specs.declared.Refusal.{Refusal}
+use Rattle.rounds.specs.Verdicts.{Verdict, Accepted}
+use Rattle.rounds.specs.declared.Refusal.TheVariants.{BadSize, NoProcess, AlreadySent, TooFarAhead, NothingInTransit, NotSentToAll, LastRound, TooManyEvents, WrongCount}
 use Rattle.rounds.specs.Limits.{most_processes, most_events}
 use Rattle.rounds.specs.Config.{Control}
 use Rattle.rounds.specs.Stages.{sent_to_all}
-use Rattle.rounds.specs.Verdicts.{number_of, accepted, refuse, open_verdict, outside, crowded, ahead, send_verdict, receive_verdict, step_verdict, first_refusal, verdict}
+use Rattle.rounds.specs.Verdicts.{accepted, refuse, open_verdict, outside, crowded, ahead, send_verdict, receive_verdict, step_verdict, first_refusal, verdict}
 use Rattle.rounds.specs.Allowed.{Opens, MaySend, Allowed}
 
 -- ---- verdicts
 pub is_accepted : (v : Verdict) → accepted v ≡ true → v ≡ Accepted
-unfolding accepted number_of
-is_accepted Accepted e = refl
-is_accepted BadSize e = absurd (false≢true e)
-is_accepted NoProcess e = absurd (false≢true e)
-is_accepted AlreadySent e = absurd (false≢true e)
-is_accepted TooFarAhead e = absurd (false≢true e)
-is_accepted NothingInTransit e = absurd (false≢true e)
-is_accepted NotSentToAll e = absurd (false≢true e)
-is_accepted LastRound e = absurd (false≢true e)
-is_accepted TooManyEvents e = absurd (false≢true e)
-is_accepted WrongCount e = absurd (false≢true e)
+unfolding accepted
+is_accepted (Ok tt) e = refl
+is_accepted (Err r) e = absurd (false≢true e)
 
 pub accepted_is : (v : Verdict) → v ≡ Accepted → accepted v ≡ true
-unfolding accepted number_of
+unfolding accepted
 accepted_is v e = rw e
 
 pub refused_is : (v : Verdict) → (v ≡ Accepted → ⊥) → accepted v ≡ false
@@ -44,14 +38,14 @@ refused_is v r = go (accepted v) refl
 
 -- ---- tests, one after the other
 -- what is accepted has passed its first test, and the rest is accepted
-passed : (b : Bool) (v rest : Verdict) → accepted v ≡ false → accepted (refuse b v rest) ≡ true → (b ≡ false) × (accepted rest ≡ true)
-unfolding refuse
-passed true v rest n y = absurd (true≢false (sym y ∙ n))
-passed false v rest n y = (refl, y)
+passed : (b : Bool) (r : Refusal) (rest : Verdict) → accepted (refuse b r rest) ≡ true → (b ≡ false) × (accepted rest ≡ true)
+unfolding refuse accepted
+passed true r rest y = absurd (false≢true y)
+passed false r rest y = (refl, y)
 
-pass : (b : Bool) (v rest : Verdict) → b ≡ false → refuse b v rest ≡ rest
+pass : (b : Bool) (r : Refusal) (rest : Verdict) → b ≡ false → refuse b r rest ≡ rest
 unfolding refuse
-pass b v rest e = rw e
+pass b r rest e = rw e
 
 pub neither : (a b : Bool) → (a || b) ≡ false → (a ≡ false) × (b ≡ false)
 neither true b e = absurd (true≢false e)
@@ -79,10 +73,10 @@ room c k h = le-ltb most_events (c.events + k) h
 
 -- ---- an opening
 pub opens_right : (n given : ℕ) → accepted (open_verdict n given) ≡ true → Opens n given
-unfolding open_verdict accepted number_of
+unfolding open_verdict accepted
 opens_right n given e =
-    let a = passed _ BadSize _ refl e in
-    let b = passed _ WrongCount _ refl a.1 in
+    let a = passed _ BadSize _ e in
+    let b = passed _ WrongCount _ a.1 in
     let o = neither (eqb n 0) (ltb most_processes n) a.0 in
     record {
       some = omega (arith, eqb-false n 0 o.0);
@@ -99,10 +93,10 @@ right_opens n given h =
 
 -- ---- accepted, so allowed
 may_send : (c : Control) (p q : ℕ) → accepted (send_verdict c p q) ≡ true → MaySend c p q
-unfolding send_verdict ahead accepted number_of
+unfolding send_verdict ahead accepted
 may_send c p q e =
-    let a = passed _ AlreadySent _ refl e in
-    let b = passed _ TooFarAhead _ refl a.1 in
+    let a = passed _ AlreadySent _ e in
+    let b = passed _ TooFarAhead _ a.1 in
     record { unsent = a.0; near = eqb-false _ _ b.0 }
 
 pub none_refused_lem : (n : ℕ) (f : ℕ → Verdict) → accepted (first_refusal n f) ≡ true → (k : ℕ) → k < n → accepted (f k) ≡ true
@@ -116,30 +110,30 @@ none_refused_lem (suc n) f e k h = go (accepted (first_refusal n f)) refl e (non
     go false q z ih = absurd (true≢false (sym z ∙ q))
 
 pub allowed : (c : Control) (e : Event) → accepted (verdict c e) ≡ true → Allowed c e
-unfolding verdict accepted number_of receive_verdict step_verdict sent_to_all
+unfolding verdict accepted receive_verdict step_verdict sent_to_all
 allowed c (Send p q) e =
-    let a = passed _ NoProcess _ refl e in
-    let b = passed _ TooManyEvents _ refl a.1 in
+    let a = passed _ NoProcess _ e in
+    let b = passed _ TooManyEvents _ a.1 in
     let o = neither _ _ a.0 in
     let space = roomy c 1 b.0 in
     record { from = inside c p o.0; to = inside c q o.1; room = omega arith; may = may_send c p q b.1 }
 allowed c (Receive p q) e =
-    let a = passed _ NoProcess _ refl e in
-    let b = passed _ TooManyEvents _ refl a.1 in
-    let d = passed _ NothingInTransit _ refl b.1 in
+    let a = passed _ NoProcess _ e in
+    let b = passed _ TooManyEvents _ a.1 in
+    let d = passed _ NothingInTransit _ b.1 in
     let o = neither _ _ a.0 in
     let space = roomy c 1 b.0 in
     record { to = inside c p o.0; from = inside c q o.1; room = omega arith; waiting = not-false _ d.0 }
 allowed c (Step p) e =
-    let a = passed _ NoProcess _ refl e in
-    let b = passed _ TooManyEvents _ refl a.1 in
-    let d = passed _ NotSentToAll _ refl b.1 in
-    let f = passed _ LastRound _ refl d.1 in
+    let a = passed _ NoProcess _ e in
+    let b = passed _ TooManyEvents _ a.1 in
+    let d = passed _ NotSentToAll _ b.1 in
+    let f = passed _ LastRound _ d.1 in
     let space = roomy c 1 b.0 in
     record { who = inside c p a.0; room = omega arith; spoken = eqb-true _ _ (not-false _ d.0); more = eqb-false _ _ f.0 }
 allowed c (Broadcast p) e =
-    let a = passed _ NoProcess _ refl e in
-    let b = passed _ TooManyEvents _ refl a.1 in
+    let a = passed _ NoProcess _ e in
+    let b = passed _ TooManyEvents _ a.1 in
     record {
       who = inside c p a.0;
       room = roomy c c.size b.0;
@@ -152,7 +146,7 @@ unfolding send_verdict ahead
 send_may c p q m = pass _ AlreadySent _ m.unsent ∙ pass _ TooFarAhead _ (ne_eqb _ _ m.near)
 
 all_accepted : (n : ℕ) (f : ℕ → Verdict) → ((k : ℕ) → k < n → f k ≡ Accepted) → first_refusal n f ≡ Accepted
-unfolding first_refusal accepted number_of
+unfolding first_refusal accepted
 all_accepted zero f h = refl
 all_accepted (suc n) f h = rw (all_accepted n f (λ k l. h k (omega arith))) (h n (omega arith))
 

@@ -10,7 +10,7 @@ use Rattle.voting.specs.declared.Message.{Message}
 use Rattle.voting.specs.Voting.{opens, message, rule}
 use Rattle.rounds.specs.declared.Event.{Event}
 use Rattle.rounds.specs.declared.Event.TheVariants.{Send, Receive, Step, Broadcast}
-use Rattle.rounds.specs.declared.Verdict.{Verdict}
+use Rattle.rounds.specs.Verdicts.{Verdict}
 use Rattle.rounds.specs.Config.{Control, Content, at₃, open_control, open_content, opening}
 use Rattle.rounds.specs.Stages.{tick}
 use Rattle.rounds.specs.Verdicts.{accepted, verdict}

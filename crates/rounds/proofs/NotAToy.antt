@@ -10,7 +10,7 @@ use Rattle.sets.specs.Sets.{has}
 use Rattle.sets.proofs.Membership.{with_own, without_own}
 use Rattle.rounds.specs.declared.Event.{Event}
 use Rattle.rounds.specs.declared.Event.TheVariants.{Send, Receive, Step, Broadcast}
-use Rattle.rounds.specs.declared.Verdict.TheVariants.{Accepted}
+use Rattle.rounds.specs.Verdicts.{Accepted}
 use Rattle.rounds.specs.Config.{Site, Control, Config, opening}
 use Rattle.rounds.specs.Stages.{tick}
 use Rattle.rounds.specs.Verdicts.{verdict}

@@ -8,7 +8,7 @@ use Rattle.rounds.specs.declared.Stage.{Stage}
 use Rattle.rounds.specs.declared.Stage.TheVariants.{Sending, Collecting, Pending, Idle}
 use Rattle.rounds.specs.declared.Event.{Event}
 use Rattle.rounds.specs.declared.Event.TheVariants.{Send, Receive, Step, Broadcast}
-use Rattle.rounds.specs.declared.Verdict.TheVariants.{Accepted}
+use Rattle.rounds.specs.Verdicts.{Accepted}
 use Rattle.rounds.specs.Limits.{window}
 use Rattle.rounds.specs.Config.{Control, Config, opening}
 use Rattle.rounds.specs.Stages.{stage, one}

@@ -6,7 +6,7 @@ use Rattle.voting.specs.declared.Message.{Message}
 use Rattle.voting.specs.Voting.{message, rule}
 use Rattle.rounds.specs.declared.Event.{Event}
 use Rattle.rounds.specs.declared.Event.TheVariants.{Send, Receive, Step, Broadcast}
-use Rattle.rounds.specs.declared.Verdict.{Verdict}
+use Rattle.rounds.specs.Verdicts.{Verdict}
 use Rattle.rounds.specs.Limits.{window}
 use Rattle.rounds.specs.Config.{Control, Content, Config, at, at₂, at₃}
 use Rattle.rounds.specs.Stages.{tick}

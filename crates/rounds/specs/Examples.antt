@@ -2,24 +2,23 @@
 -- Assumes nothing.
 use Rattle.std.specs.Prelude.{ℕ, zero, suc, ◌+◌, ◌*◌, ◌-◌, Bool, true, false, ◌&&◌, List, [], ◌∷◌, ◌++◌, eqb, length}
 use Rattle.sets.specs.Sets.{empty, has, with, without, union, full, only, members}
-use Rattle.voting.specs.declared.Choice.{Choice}
-use Rattle.voting.specs.declared.Choice.TheVariants.{Absent, Present}
-use Rattle.voting.specs.Voting.{opens, message, or_else, value_or, lesser, same, least, all_same, agreed, values, votes, odd_rule, even_rule, odd, rule}
+use Rattle.std.specs.Prelude.{Option, Some, None}
+use Rattle.voting.specs.Voting.{opens, message, lesser, same, least, all_same, agreed, values, votes, odd_rule, even_rule, odd, rule}
 use Rattle.rounds.specs.declared.Stage.TheVariants.{Sending, Collecting, Pending, Idle}
 use Rattle.rounds.specs.declared.Event.{Event}
 use Rattle.rounds.specs.declared.Event.TheVariants.{Send, Receive, Step, Broadcast}
-use Rattle.rounds.specs.declared.Verdict.{Verdict}
+use Rattle.rounds.specs.Verdicts.{Verdict}
 use Rattle.rounds.specs.Limits.{window, last_round, most_events}
 use Rattle.rounds.specs.Config.{Control, Config, at, at₂, at₃, open_control, open_content, opening}
 use Rattle.rounds.specs.Stages.{sent_to_all, heard_from_all, waited, stage, index, one, tick}
-use Rattle.rounds.specs.Verdicts.{open_verdict, number_of, accepted, refuse, outside, crowded, ahead, send_verdict, receive_verdict, step_verdict, first_refusal, verdict, number}
+use Rattle.rounds.specs.Verdicts.{open_verdict, refusal_number, number_of, accepted, refuse, outside, crowded, ahead, send_verdict, receive_verdict, step_verdict, first_refusal, verdict, number}
 use Rattle.rounds.specs.Events.{timely, send_control, send_content, receive_control, gathered, messages, heard_by, from, step_control, step_content, sends_control, sends_content, next_control, next_content, if_accepted, apply_control, apply_content, apply}
 use Rattle.rounds.specs.Runs.{after, verdicts, Report, report_of, told, reports, replay, replay_verdict, value_at}
 
 -- ---- runs from a list of opening values
 -- to unfold `run` is to unfold the whole machine: its `unfolding` line names all of it
 unfoldable pub run : List ℕ → List Event → Config
-unfolding has with without union full only members opens message or_else value_or lesser same least all_same agreed values votes odd_rule even_rule odd rule at at₂ at₃ open_control open_content opening sent_to_all heard_from_all waited stage index one tick number_of accepted refuse outside crowded ahead send_verdict receive_verdict step_verdict first_refusal verdict number timely send_control send_content receive_control gathered messages heard_by from step_control step_content sends_control sends_content next_control next_content if_accepted apply_control apply_content apply after verdicts report_of told reports replay replay_verdict value_at
+unfolding has with without union full only members opens message lesser same least all_same agreed values votes odd_rule even_rule odd rule at at₂ at₃ open_control open_content opening sent_to_all heard_from_all waited stage index one tick number_of accepted refusal_number refuse outside crowded ahead send_verdict receive_verdict step_verdict first_refusal verdict number timely send_control send_content receive_control gathered messages heard_by from step_control step_content sends_control sends_content next_control next_content if_accepted apply_control apply_content apply after verdicts report_of told reports replay replay_verdict value_at
 run vs es = after (opening (length vs) (value_at vs)) es
 
 -- ---- what a test looks at
@@ -53,7 +52,7 @@ waits c p =
     site.round ∷ count Sending ∷ count Collecting ∷ count Pending ∷ count Idle ∷ site.reach ∷ []
 
 -- a process's value, vote and decision are these, as the `v` line has them
-abbrev pub votes_are : Config → ℕ → ℕ → Choice → Choice → Bool
+abbrev pub votes_are : Config → ℕ → ℕ → Option ℕ → Option ℕ → Bool
 votes_are c p x v d = let h = c.content.holding p in eqb h.value x && same h.vote v && same h.decision d
 
 -- the lead of p over q is this
@@ -107,7 +106,7 @@ example1 =
     let c = run seven_and_four trace1 in
     equal (steps seven_and_four trace1) (0 ∷ 1 ∷ 3 ∷ [])
     && equal (waits c 0) (2 ∷ 2 ∷ 2 ∷ 1 ∷ 1 ∷ 3 ∷ []) && equal (waits c 1) (1 ∷ 6 ∷ 0 ∷ 0 ∷ 0 ∷ 2 ∷ [])
-    && votes_are c 0 4 Absent Absent && votes_are c 1 4 Absent Absent
+    && votes_are c 0 4 None None && votes_are c 1 4 None None
     && eqb c.control.events 6 && none_refused (numbers seven_and_four trace1)
 
 -- 2: document 003's own, values 1, 1, 0 and heard sets {0,1}, {1,2}, {0,2}
@@ -120,7 +119,7 @@ split = round_of_three (0 ∷ 1 ∷ []) (1 ∷ 2 ∷ []) (0 ∷ 2 ∷ [])
 unfoldable pub example2 : Bool
 example2 =
     let c = run one_one_zero split in
-    votes_are c 0 1 (Present 1) Absent && votes_are c 1 0 Absent Absent && votes_are c 2 0 Absent Absent
+    votes_are c 0 1 (Some 1) None && votes_are c 1 0 None None && votes_are c 2 0 None None
     && equal (steps one_one_zero split) (0 ∷ 1 ∷ 3 ∷ 1 ∷ 1 ∷ 6 ∷ 2 ∷ 1 ∷ 5 ∷ [])
 
 -- 3: then all hear all in rounds 2 to 4
@@ -131,14 +130,14 @@ unfoldable pub example3 : Bool
 example3 =
     let c = run one_one_zero (split ++ whole) in
     let d = run one_one_zero (split ++ whole ++ whole ++ whole) in
-    votes_are c 0 1 Absent Absent && votes_are c 1 1 Absent Absent && votes_are c 2 1 Absent Absent
-    && votes_are d 0 1 Absent (Present 1) && votes_are d 1 1 Absent (Present 1) && votes_are d 2 1 Absent (Present 1)
+    votes_are c 0 1 None None && votes_are c 1 1 None None && votes_are c 2 1 None None
+    && votes_are d 0 1 None (Some 1) && votes_are d 1 1 None (Some 1) && votes_are d 2 1 None (Some 1)
 
 -- 4: each hears only itself in rounds 1 and 2
 unfoldable pub example4 : Bool
 example4 =
     let c = run seven_and_four (apart ++ apart) in
-    votes_are c 0 7 Absent (Present 7) && votes_are c 1 4 Absent (Present 4)
+    votes_are c 0 7 None (Some 7) && votes_are c 1 4 None (Some 4)
 
 -- 5: then both hear both in rounds 3 to 6; what they hold after rounds 4, 5 and 6
 unfoldable pub example5 : Bool
@@ -146,21 +145,21 @@ example5 =
     let c = run seven_and_four (apart ++ apart ++ together ++ together) in
     let d = run seven_and_four (apart ++ apart ++ together ++ together ++ together) in
     let e = run seven_and_four (apart ++ apart ++ together ++ together ++ together ++ together) in
-    votes_are c 0 4 Absent (Present 7) && votes_are c 1 4 Absent (Present 4)
-    && votes_are d 0 4 (Present 4) (Present 7) && votes_are d 1 4 (Present 4) (Present 4)
-    && votes_are e 0 4 Absent (Present 4) && votes_are e 1 4 Absent (Present 4)
+    votes_are c 0 4 None (Some 7) && votes_are c 1 4 None (Some 4)
+    && votes_are d 0 4 (Some 4) (Some 7) && votes_are d 1 4 (Some 4) (Some 4)
+    && votes_are e 0 4 None (Some 4) && votes_are e 1 4 None (Some 4)
 
 -- 6: each hears itself in round 1; in round 2 process 0 hears both
 unfoldable pub example6 : Bool
 example6 =
     let c = run seven_and_four (apart ++ round_of_two (0 ∷ 1 ∷ []) (1 ∷ [])) in
-    votes_are c 0 4 Absent Absent
+    votes_are c 0 4 None None
 
 -- 7: a step with an empty heard set in round 1
 unfoldable pub example7 : Bool
 example7 =
     let c = run seven_and_four (Broadcast 0 ∷ Step 0 ∷ []) in
-    votes_are c 0 7 Absent Absent && eqb (c.control.site 0).round 2
+    votes_are c 0 7 None None && eqb (c.control.site 0).round 2
 
 -- 8: the sender at round 8 and at round 9, the receiver at 1; so its lead is the last that is taken, and the one that is refused
 unfoldable pub example8 : Bool
@@ -195,13 +194,13 @@ carried_reach =
 unfoldable pub carried_value : Bool
 carried_value =
     let c = run seven_four_two overtaken in
-    votes_are c 1 2 (Present 2) Absent && votes_are c 0 4 (Present 4) Absent
+    votes_are c 1 2 (Some 2) None && votes_are c 0 4 (Some 4) None
 
 -- a process does not hear itself without a receive: its own 1 is less than the 4 that it hears
 unfoldable pub own_message : Bool
 own_message =
     let c = run (1 ∷ 4 ∷ []) (Broadcast 0 ∷ Broadcast 1 ∷ Receive 0 1 ∷ Step 0 ∷ []) in
-    votes_are c 0 4 (Present 4) Absent && eqb (c.control.site 0).reach 3
+    votes_are c 0 4 (Some 4) None && eqb (c.control.site 0).reach 3
 
 -- document 01's example 11: a late message is accepted and not put in transit, and its receiver's stages do not change through it
 unfoldable pub late_message : Bool
@@ -225,7 +224,7 @@ early_message =
 unfoldable pub silent_even : Bool
 silent_even =
     let c = run seven_and_four (Broadcast 0 ∷ Receive 0 0 ∷ Step 0 ∷ Broadcast 0 ∷ Step 0 ∷ []) in
-    votes_are c 0 7 Absent Absent
+    votes_are c 0 7 None None
 
 -- who has heard everyone is at I, and no longer at P, while the other hears
 unfoldable pub heard_everyone : Bool
@@ -250,7 +249,7 @@ refusal_order =
 
 -- an opening with values that are not N in number, and 1 before 11
 unfoldable pub opening_values : Bool
-unfolding number_of refuse open_verdict
+unfolding number_of refusal_number refuse open_verdict
 opening_values =
     eqb (number_of (open_verdict 2 2)) 0 && eqb (number_of (open_verdict 2 1)) 11 && eqb (number_of (open_verdict 2 3)) 11
     && eqb (number_of (open_verdict 0 1)) 1

@@ -3,8 +3,8 @@
 use Rattle.std.specs.Prelude.{ℕ, zero, suc, List, [], ◌∷◌, ◌++◌, get_or, length}
 use Rattle.rounds.specs.declared.Event.{Event}
 use Rattle.rounds.specs.declared.Event.TheVariants.{Send, Receive, Step, Broadcast}
-use Rattle.rounds.specs.declared.Verdict.{Verdict}
-use Rattle.rounds.specs.declared.Verdict.TheVariants.{Accepted}
+use Rattle.rounds.specs.Verdicts.{Verdict}
+use Rattle.rounds.specs.Verdicts.{Accepted}
 use Rattle.rounds.specs.Config.{Control, Config, open_control, opening, no_run}
 use Rattle.rounds.specs.Verdicts.{open_verdict, verdict}
 use Rattle.rounds.specs.Events.{if_accepted, apply_control, apply}

@@ -1,35 +1,45 @@
 -- When an opening or an event is refused, and with which number of document 01: the tests in its order.
 -- Assumes nothing.
-use Rattle.std.specs.Prelude.{ℕ, zero, suc, ◌+◌, Bool, true, false, cond, ◌||◌, not, eqb, ltb, leb}
+use Rattle.std.specs.Prelude.{ℕ, zero, suc, ◌+◌, Bool, true, false, cond, ◌||◌, not, eqb, ltb, leb, Result, Ok, Err, is_ok, ⊤}
 use Rattle.sets.specs.Sets.{has}
 use Rattle.rounds.specs.declared.Event.{Event}
 use Rattle.rounds.specs.declared.Event.TheVariants.{Send, Receive, Step, Broadcast}
-use Rattle.rounds.specs.declared.Verdict.{Verdict}
-use Rattle.rounds.specs.declared.Verdict.TheVariants.{Accepted, BadSize, NoProcess, AlreadySent, TooFarAhead, NothingInTransit, NotSentToAll, LastRound, TooManyEvents, WrongCount}
+use Rattle.rounds.specs.declared.Refusal.{Refusal}
+use Rattle.rounds.specs.declared.Refusal.TheVariants.{BadSize, NoProcess, AlreadySent, TooFarAhead, NothingInTransit, NotSentToAll, LastRound, TooManyEvents, WrongCount}
 use Rattle.rounds.specs.Limits.{most_processes, window, last_round, most_events}
 use Rattle.rounds.specs.Config.{Control}
 use Rattle.rounds.specs.Stages.{sent_to_all}
 
+-- what an opening or an event is answered with
+abbrev pub Verdict : Type 0
+Verdict = Result ⊤ Refusal
+
+abbrev pub Accepted : Verdict
+Accepted = Ok tt
+
 -- the numbers of document 01
+unfoldable pub refusal_number : Refusal → ℕ
+refusal_number BadSize = 1
+refusal_number NoProcess = 2
+refusal_number AlreadySent = 3
+refusal_number TooFarAhead = 4
+refusal_number NothingInTransit = 5
+refusal_number NotSentToAll = 6
+refusal_number LastRound = 7
+refusal_number TooManyEvents = 8
+refusal_number WrongCount = 11
+
 unfoldable pub number_of : Verdict → ℕ
-number_of Accepted = 0
-number_of BadSize = 1
-number_of NoProcess = 2
-number_of AlreadySent = 3
-number_of TooFarAhead = 4
-number_of NothingInTransit = 5
-number_of NotSentToAll = 6
-number_of LastRound = 7
-number_of TooManyEvents = 8
-number_of WrongCount = 11
+number_of (Ok _) = 0
+number_of (Err r) = refusal_number r
 
 unfoldable pub accepted : Verdict → Bool
-accepted v = eqb (number_of v) 0
+accepted v = is_ok v
 
 -- the first test that holds gives the verdict
-unfoldable pub refuse : Bool → Verdict → Verdict → Verdict
-refuse true v rest = v
-refuse false v rest = rest
+unfoldable pub refuse : Bool → Refusal → Verdict → Verdict
+refuse true r rest = Err r
+refuse false r rest = rest
 
 -- ---- the opening: N, and how many values there are
 unfoldable pub open_verdict : ℕ → ℕ → Verdict

@@ -5,7 +5,7 @@ ghost use Rattle.std.specs.Prelude.{◌≡◌};
 ghost use Rattle.rounds.specs.Verdicts.{number_of};
 
 // What a process is at, judged just before each accepted event.
-#[derive(Clone, Copy)]
+#[derive(Clone, Copy, Debug, PartialEq, Eq)]
 pub enum Stage {
     // S: it has not yet sent to all.
     Sending,
@@ -18,7 +18,7 @@ pub enum Stage {
 }
 
 // What a recorder writes down. The first number is the process that acts.
-#[derive(Clone, Copy)]
+#[derive(Clone, Copy, Debug, PartialEq, Eq)]
 pub enum Event {
     Send(u8, u8),
     Receive(u8, u8),
@@ -26,10 +26,9 @@ pub enum Event {
     Broadcast(u8),
 }
 
-// What an opening or an event is answered with. Its number is that of document 01.
-#[derive(Clone, Copy)]
-pub enum Verdict {
-    Accepted,
+// Why an opening or an event is refused. Its number is that of document 01.
+#[derive(Clone, Copy, Debug, PartialEq, Eq)]
+pub enum Refusal {
     // 1: there are no processes, or more than the machine holds.
     BadSize,
     // 2: a process number is N or more.
@@ -50,20 +49,24 @@ pub enum Verdict {
     WrongCount,
 }
 
+// What an opening or an event is answered with.
+pub type Verdict = Result<(), Refusal>;
+
 // The number that document 01 gives a verdict.
+#[tactic(auto, unfolding(crate::specs::Verdicts::number_of, crate::specs::Verdicts::refusal_number))]
 pub fn number(v: Verdict) -> u32
     ensures { result ≡ number_of v }
 {
     match v {
-        Verdict::Accepted => 0,
-        Verdict::BadSize => 1,
-        Verdict::NoProcess => 2,
-        Verdict::AlreadySent => 3,
-        Verdict::TooFarAhead => 4,
-        Verdict::NothingInTransit => 5,
-        Verdict::NotSentToAll => 6,
-        Verdict::LastRound => 7,
-        Verdict::TooManyEvents => 8,
-        Verdict::WrongCount => 11,
+        Ok(()) => 0,
+        Err(Refusal::BadSize) => 1,
+        Err(Refusal::NoProcess) => 2,
+        Err(Refusal::AlreadySent) => 3,
+        Err(Refusal::TooFarAhead) => 4,
+        Err(Refusal::NothingInTransit) => 5,
+        Err(Refusal::NotSentToAll) => 6,
+        Err(Refusal::LastRound) => 7,
+        Err(Refusal::TooManyEvents) => 8,
+        Err(Refusal::WrongCount) => 11,
     }
 }

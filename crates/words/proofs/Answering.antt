@@ -7,8 +7,8 @@ use mathlib.Core.Bool.{Bool, true, false, cond, ◌||◌}
 use mathlib.Core.List.{List, []}
 use Rattle.rounds.specs.declared.Event.{Event}
 use Rattle.rounds.specs.declared.Event.TheVariants.{Send, Receive, Step, Broadcast}
-use Rattle.rounds.specs.declared.Verdict.{Verdict}
-use Rattle.rounds.specs.declared.Verdict.TheVariants.{NoProcess, TooManyEvents}
+use Rattle.rounds.specs.Verdicts.{Verdict}
+use Rattle.rounds.specs.declared.Refusal.TheVariants.{NoProcess, TooManyEvents}
 use Rattle.rounds.specs.Limits.{most_processes}
 use Rattle.rounds.specs.Config.{Control, Content}
 use Rattle.rounds.specs.Stages.{sent_to_all}

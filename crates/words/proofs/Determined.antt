@@ -5,7 +5,7 @@ use mathlib.Core.Path.{◌≡◌}
 use mathlib.Core.List.{List}
 use Rattle.sets.proofs.Determined.{determined}
 use Rattle.rounds.specs.declared.Event.{Event}
-use Rattle.rounds.specs.declared.Verdict.{Verdict}
+use Rattle.rounds.specs.Verdicts.{Verdict}
 use Rattle.words.specs.declared.Answer.{Answer}
 use Rattle.words.specs.declared.Standing.{Standing}
 use Rattle.words.specs.Layout.{Mem}

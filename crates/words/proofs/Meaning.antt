@@ -9,8 +9,8 @@ use mathlib.Core.List.{List, [], ◌++◌}
 use lib.ListN.{length}
 use Rattle.rounds.specs.declared.Event.{Event}
 use Rattle.rounds.specs.declared.Event.TheVariants.{Send, Receive, Step, Broadcast}
-use Rattle.rounds.specs.declared.Verdict.{Verdict}
-use Rattle.rounds.specs.declared.Verdict.TheVariants.{Accepted}
+use Rattle.rounds.specs.Verdicts.{Verdict}
+use Rattle.rounds.specs.Verdicts.{Accepted}
 use Rattle.rounds.specs.Limits.{most_processes}
 use Rattle.rounds.specs.Config.{Control, Content, Config, open_control, opening, no_run}
 use Rattle.rounds.specs.Verdicts.{accepted, open_verdict, verdict}

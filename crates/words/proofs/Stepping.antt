@@ -9,8 +9,7 @@ use mathlib.Core.List.{List, [], ◌∷◌}
 use lib.Dec.{lit<}
 use borrow.Author.Tests.{le-ltb}
 use Rattle.sets.specs.Sets.{empty, members}
-use Rattle.voting.specs.declared.Choice.{Choice}
-use Rattle.voting.specs.declared.Choice.TheVariants.{Absent, Present}
+use Rattle.std.specs.Prelude.{Option, Some, None}
 use Rattle.voting.specs.declared.Holding.{Holding}
 use Rattle.voting.specs.Voting.{rule}
 use Rattle.rounds.specs.Limits.{window, last_round}
@@ -34,10 +33,10 @@ use Rattle.words.proofs.Fitting.{Fit, word_fits}
 use Rattle.words.proofs.Settling.{tick_live, tick_fit, unstaged, begun_shows}
 
 -- ---- what the process holds
-choice_back : (v : Choice) → choice (flag_of v) (word_of v) ≡ v
+choice_back : (v : Option ℕ) → choice (flag_of v) (word_of v) ≡ v
 unfolding choice flag_of word_of
-choice_back Absent = refl
-choice_back (Present x) = refl
+choice_back None = refl
+choice_back (Some x) = refl
 
 unfoldable holds : Content → ℕ → Holding → Content
 holds d p h = record { holding = at d.holding p h; mail = d.mail }

@@ -2,15 +2,15 @@
 -- An answer is the round machine's own, on what the words spell. Assumes nothing.
 use Rattle.std.specs.Prelude.{ℕ, zero, suc, ◌+◌, ◌-◌, cond, List, [], ◌∷◌, leb, get_or, length, replicate}
 use Rattle.sets.specs.Sets.{empty, with, without, members}
-use Rattle.voting.specs.declared.Choice.TheVariants.{Absent}
+use Rattle.std.specs.Prelude.{Option, Some, None}
 use Rattle.voting.specs.declared.Message.{Message}
 use Rattle.voting.specs.declared.Holding.{Holding}
 use Rattle.voting.specs.Voting.{rule}
 use Rattle.rounds.specs.declared.Stage.TheVariants.{Sending, Collecting, Pending, Idle}
 use Rattle.rounds.specs.declared.Event.{Event}
 use Rattle.rounds.specs.declared.Event.TheVariants.{Send, Receive, Step, Broadcast}
-use Rattle.rounds.specs.declared.Verdict.{Verdict}
-use Rattle.rounds.specs.declared.Verdict.TheVariants.{Accepted}
+use Rattle.rounds.specs.Verdicts.{Verdict}
+use Rattle.rounds.specs.Verdicts.{Accepted}
 use Rattle.rounds.specs.Config.{Control}
 use Rattle.rounds.specs.Stages.{stage, index}
 use Rattle.rounds.specs.Verdicts.{open_verdict, ahead, verdict}
@@ -166,7 +166,7 @@ answer c (Broadcast p) = Judged (verdict c (Broadcast p))
 
 -- ---- what is shown of a process; of one that is not there, nothing
 unfoldable pub nobody : Standing
-nobody = record { round = 0; value = 0; vote = Absent; decision = Absent; reach = empty; sending = 0; collecting = 0; pending = 0; idle = 0 }
+nobody = record { round = 0; value = 0; vote = None; decision = None; reach = empty; sending = 0; collecting = 0; pending = 0; idle = 0 }
 
 unfoldable pub standing_of : Mem → ℕ → Standing
 standing_of m p =

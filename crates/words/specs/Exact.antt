@@ -2,7 +2,7 @@
 -- A contract cites its name here and nothing else; that two results which it allows are equal is the lemma in proofs/Determined. Assumes nothing.
 use Rattle.std.specs.Prelude.{ℕ, ◌≡◌, List, length}
 use Rattle.rounds.specs.declared.Event.{Event}
-use Rattle.rounds.specs.declared.Verdict.{Verdict}
+use Rattle.rounds.specs.Verdicts.{Verdict}
 use Rattle.rounds.specs.Verdicts.{open_verdict, verdict}
 use Rattle.words.specs.declared.Answer.{Answer}
 use Rattle.words.specs.declared.Standing.{Standing}

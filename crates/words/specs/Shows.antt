@@ -5,8 +5,8 @@ use Rattle.rounds.specs.declared.Stage.{Stage}
 use Rattle.rounds.specs.declared.Stage.TheVariants.{Sending, Collecting, Pending, Idle}
 use Rattle.rounds.specs.declared.Event.{Event}
 use Rattle.rounds.specs.declared.Event.TheVariants.{Send, Receive, Step, Broadcast}
-use Rattle.rounds.specs.declared.Verdict.{Verdict}
-use Rattle.rounds.specs.declared.Verdict.TheVariants.{Accepted}
+use Rattle.rounds.specs.Verdicts.{Verdict}
+use Rattle.rounds.specs.Verdicts.{Accepted}
 use Rattle.rounds.specs.Limits.{most_processes, window}
 use Rattle.rounds.specs.Config.{Control, Content, Config}
 use Rattle.rounds.specs.Stages.{stage, index, one}

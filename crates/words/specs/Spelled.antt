@@ -1,8 +1,7 @@
 -- What the words of a memory spell, whatever it holds: the sites, holdings and messages that its words are read as.
 -- A memory that no opening made is read in the same way, so that every call has a stated result on it. Assumes nothing.
 use Rattle.std.specs.Prelude.{ℕ, ◌+◌, ◌-◌, ◌*◌, ◌%◌, ◌^◌, cond, eqb, ltb}
-use Rattle.voting.specs.declared.Choice.{Choice}
-use Rattle.voting.specs.declared.Choice.TheVariants.{Absent, Present}
+use Rattle.std.specs.Prelude.{Option, Some, None}
 use Rattle.voting.specs.declared.Message.{Message}
 use Rattle.voting.specs.declared.Holding.{Holding}
 use Rattle.rounds.specs.declared.Stage.{Stage}
@@ -16,16 +15,16 @@ unfoldable pub word : ℕ → ℕ
 word x = x % 2 ^ 32
 
 -- ---- a choice in two words: whether it is present, and what it is
-unfoldable pub choice : ℕ → ℕ → Choice
-choice flag x = cond (eqb flag 0) Absent (Present x)
+unfoldable pub choice : ℕ → ℕ → Option ℕ
+choice flag x = cond (eqb flag 0) None (Some x)
 
-unfoldable pub flag_of : Choice → ℕ
-flag_of Absent = 0
-flag_of (Present x) = 1
+unfoldable pub flag_of : Option ℕ → ℕ
+flag_of None = 0
+flag_of (Some x) = 1
 
-unfoldable pub word_of : Choice → ℕ
-word_of Absent = 0
-word_of (Present x) = x
+unfoldable pub word_of : Option ℕ → ℕ
+word_of None = 0
+word_of (Some x) = x
 
 -- ---- the run: a memory that says more than the most processes is no run, and has none
 unfoldable pub people : Mem → ℕ
