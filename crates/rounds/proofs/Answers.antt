@@ -22,7 +22,7 @@ use Rattle.rounds.specs.Allowed.{Opens, MaySend, Allowed}
 -- ---- verdicts
 pub is_accepted : (v : Verdict) → accepted v ≡ true → v ≡ Accepted
 unfolding accepted
-is_accepted (Ok tt) e = refl
+is_accepted (Ok u) e = refl
 is_accepted (Err r) e = absurd (false≢true e)
 
 pub accepted_is : (v : Verdict) → v ≡ Accepted → accepted v ≡ true

@@ -2,11 +2,13 @@
 -- Assumes nothing.
 use Prim.Native.Nat.{ℕ, zero, suc, ◌≤◌, ◌<◌}
 use native.Mathlib.Omega.{arith}
-use mathlib.Core.Path.{◌≡◌, refl, sym, ap, ◌∙◌}
+use mathlib.Core.Path.{◌≡◌, refl, ap, ◌∙◌}
 use mathlib.Core.Bool.{Bool, true, false, cond, ◌||◌}
-use mathlib.Core.List.{List, []}
+use mathlib.Core.List.{[], ◌∷◌}
+use Rattle.std.specs.Prelude.{Ok, Err, is_ok}
 use Rattle.rounds.specs.declared.Event.{Event}
 use Rattle.rounds.specs.declared.Event.TheVariants.{Send, Receive, Step, Broadcast}
+use Rattle.rounds.specs.declared.Refusal.{Refusal}
 use Rattle.rounds.specs.Verdicts.{Verdict}
 use Rattle.rounds.specs.declared.Refusal.TheVariants.{NoProcess, TooManyEvents}
 use Rattle.rounds.specs.Limits.{most_processes}
@@ -14,17 +16,17 @@ use Rattle.rounds.specs.Config.{Control, Content}
 use Rattle.rounds.specs.Stages.{sent_to_all}
 use Rattle.rounds.specs.Verdicts.{accepted, refuse, outside, crowded, send_verdict, receive_verdict, step_verdict, first_refusal, verdict}
 use Rattle.rounds.specs.Events.{if_accepted}
-use Rattle.rounds.specs.Runs.{Report, report_of, told}
-use Rattle.rounds.proofs.Answers.{is_accepted, inside, neither, allowed}
-use Rattle.words.specs.declared.Answer.TheVariants.{Judged, Finished}
+use Rattle.rounds.specs.Runs.{report_of, told}
+use Rattle.rounds.proofs.Answers.{accepted_is, inside, neither, allowed}
+use Rattle.words.specs.declared.Finished.{Finished}
 use Rattle.words.specs.Layout.{Mem}
 use Rattle.words.specs.Spelled.{control_of}
-use Rattle.words.specs.Calls.{answer}
+use Rattle.words.specs.Calls.{judged, finishing, step_answer, stepping, answer}
 use Rattle.words.specs.Shows.{Shown, verdict_of, actor, reported}
 use Rattle.words.proofs.Spelling.{people_shown, transit_shown}
 
 -- a test that refuses, and what is left where it does not
-refuse_same : (a b : Bool) (v x y : Verdict) → a ≡ b → (b ≡ false → x ≡ y) → refuse a v x ≡ refuse b v y
+refuse_same : (a b : Bool) (v : Refusal) (x y : Verdict) → a ≡ b → (b ≡ false → x ≡ y) → refuse a v x ≡ refuse b v y
 unfolding refuse
 refuse_same a true v x y e f = rw e
 refuse_same a false v x y e f = rw e (f refl)
@@ -87,43 +89,48 @@ module _ (m : Mem) (c : Control) (d : Content) (few : c.size ≤ most_processes)
       ∙ first_same c.size (send_verdict (control_of m) p) (send_verdict c p) (λ q h. target_shown p q (inside c p i) h)))
 
   pub answer_shown : (e : Event) → answer (control_of m) e ≡ answer c e
-  unfolding answer if_accepted
-  answer_shown (Send p q) = ap Judged (verdict_shown (Send p q))
-  answer_shown (Receive p q) = ap Judged (verdict_shown (Receive p q))
-  answer_shown (Step p) = rw (verdict_shown (Step p)) (go (accepted (verdict c (Step p))) refl)
+  unfolding answer step_answer stepping finishing
+  answer_shown (Send p q) = ap judged (verdict_shown (Send p q))
+  answer_shown (Receive p q) = ap judged (verdict_shown (Receive p q))
+  answer_shown (Step p) = rw (verdict_shown (Step p)) (go (verdict c (Step p)) refl)
     where
-      go : (b : Bool) → accepted (verdict c (Step p)) ≡ b
-          → cond b (Finished ((control_of m).site p).round ((control_of m).site p).heard) (Judged (verdict c (Step p)))
-          ≡ cond b (Finished (c.site p).round (c.site p).heard) (Judged (verdict c (Step p)))
-      go true a = rw (site_shown p (allowed c (Step p) a).who)
-      go false a = refl
-  answer_shown (Broadcast p) = ap Judged (verdict_shown (Broadcast p))
+      go : (v : Verdict) → verdict c (Step p) ≡ v
+          → stepping (finishing v (record { round = ((control_of m).site p).round; heard = ((control_of m).site p).heard }))
+          ≡ stepping (finishing v (record { round = (c.site p).round; heard = (c.site p).heard }))
+      go (Ok u) e = rw (site_shown p (allowed c (Step p) (accepted_is _ e)).who)
+      go (Err r) e = refl
+  answer_shown (Broadcast p) = ap judged (verdict_shown (Broadcast p))
 
 -- ---- the verdict and the report of an answer are the round machine's
-pub answer_verdict : (c : Control) (e : Event) → verdict_of (answer c e) ≡ verdict c e
-unfolding verdict_of answer if_accepted
-answer_verdict c (Send p q) = refl
-answer_verdict c (Receive p q) = refl
-answer_verdict c (Step p) = go (accepted (verdict c (Step p))) refl
-  where
-    go : (b : Bool) → accepted (verdict c (Step p)) ≡ b
-        → verdict_of (cond b (Finished (c.site p).round (c.site p).heard) (Judged (verdict c (Step p)))) ≡ verdict c (Step p)
-    go true a = sym (is_accepted (verdict c (Step p)) a)
-    go false a = refl
-answer_verdict c (Broadcast p) = refl
+judged_verdict : (v : Verdict) → verdict_of (judged v) ≡ v
+unfolding verdict_of judged
+judged_verdict (Ok u) = refl
+judged_verdict (Err r) = refl
 
-none : (b : Bool) → ◌≡◌ {A = List Report} [] (cond b [] [])
-none true = refl
-none false = refl
+pub answer_verdict : (c : Control) (e : Event) → verdict_of (answer c e) ≡ verdict c e
+unfolding answer step_answer verdict_of stepping finishing
+answer_verdict c (Send p q) = judged_verdict (verdict c (Send p q))
+answer_verdict c (Receive p q) = judged_verdict (verdict c (Receive p q))
+answer_verdict c (Step p) = go (verdict c (Step p)) _
+  where
+    go : (v : Verdict) (f : Finished) → verdict_of (stepping (finishing v f)) ≡ v
+    go (Ok u) f = refl
+    go (Err r) f = refl
+answer_verdict c (Broadcast p) = judged_verdict (verdict c (Broadcast p))
+
+none : (e : Event) (v : Verdict) → reported e (judged v) ≡ if_accepted v [] []
+unfolding reported judged if_accepted accepted
+none e (Ok u) = refl
+none e (Err r) = refl
 
 pub answer_report : (c : Control) (e : Event) → reported e (answer c e) ≡ if_accepted (verdict c e) (told c e) []
-unfolding reported answer if_accepted told report_of actor
-answer_report c (Send p q) = none (accepted (verdict c (Send p q)))
-answer_report c (Receive p q) = none (accepted (verdict c (Receive p q)))
-answer_report c (Step p) = go (accepted (verdict c (Step p)))
+unfolding answer step_answer told report_of actor reported stepping finishing if_accepted accepted
+answer_report c (Send p q) = none (Send p q) (verdict c (Send p q))
+answer_report c (Receive p q) = none (Receive p q) (verdict c (Receive p q))
+answer_report c (Step p) = go (verdict c (Step p))
   where
-    go : (b : Bool) → reported (Step p) (cond b (Finished (c.site p).round (c.site p).heard) (Judged (verdict c (Step p))))
-        ≡ cond b (told c (Step p)) []
-    go true = refl
-    go false = refl
-answer_report c (Broadcast p) = none (accepted (verdict c (Broadcast p)))
+    go : (v : Verdict) → reported (Step p) (stepping (finishing v (record { round = (c.site p).round; heard = (c.site p).heard })))
+        ≡ cond (is_ok v) (report_of c p ∷ []) []
+    go (Ok u) = refl
+    go (Err r) = refl
+answer_report c (Broadcast p) = none (Broadcast p) (verdict c (Broadcast p))

@@ -5,11 +5,14 @@ use mathlib.Core.Path.{◌≡◌}
 use mathlib.Core.List.{List}
 use Rattle.sets.proofs.Determined.{determined}
 use Rattle.rounds.specs.declared.Event.{Event}
+use Rattle.std.specs.Prelude.{Result}
+use Rattle.rounds.specs.declared.Refusal.{Refusal}
 use Rattle.rounds.specs.Verdicts.{Verdict}
-use Rattle.words.specs.declared.Answer.{Answer}
+use Rattle.words.specs.declared.Finished.{Finished}
+use Rattle.words.specs.Calls.{Answer}
 use Rattle.words.specs.declared.Standing.{Standing}
 use Rattle.words.specs.Layout.{Mem}
-use Rattle.words.specs.Exact.{Cleared, Begun, Tried, Answered, SizeRead, EventsRead, SiteRead}
+use Rattle.words.specs.Exact.{Cleared, Begun, Tried, Stepped, Answered, SizeRead, EventsRead, SiteRead}
 
 -- an answer and a memory
 both : {A : Type 0} {a r s : A} {m x y : Mem} → (r ≡ a) × (x ≡ m) → (s ≡ a) × (y ≡ m) → (r ≡ s) × (x ≡ y)
@@ -24,6 +27,9 @@ module _ (m : Mem) {x y : Mem} where
 
   pub tried_determined : (e : Event) {r s : Verdict} → Tried m e r x → Tried m e s y → (r ≡ s) × (x ≡ y)
   tried_determined e a b = both a b
+
+  pub stepped_determined : (p : ℕ) {r s : Result Finished Refusal} → Stepped m p r x → Stepped m p s y → (r ≡ s) × (x ≡ y)
+  stepped_determined p a b = both a b
 
   pub answered_determined : (e : Event) {r s : Answer} → Answered m e r x → Answered m e s y → (r ≡ s) × (x ≡ y)
   answered_determined e a b = both a b

@@ -24,13 +24,15 @@ use Rattle.rounds.proofs.Broadcasts.{sends_size, each_sends}
 use Rattle.rounds.proofs.MadeOfThree.{sends_course, apply_course}
 use Rattle.rounds.proofs.Limits.{size_stays}
 use Rattle.rounds.proofs.InTurn.{apply_accepted, apply_refused}
-use Rattle.words.specs.declared.Answer.{Answer}
-use Rattle.words.specs.declared.Answer.TheVariants.{Judged}
+use Rattle.std.specs.Prelude.{Result}
+use Rattle.rounds.specs.declared.Refusal.{Refusal}
+use Rattle.words.specs.declared.Finished.{Finished}
+use Rattle.words.specs.Calls.{Answer, judged, stepping}
 use Rattle.words.specs.declared.Standing.{Standing}
 use Rattle.words.specs.Layout.{Mem}
 use Rattle.words.specs.Spelled.{control_of}
 use Rattle.words.specs.Calls.{blank, opened, begins, sent_below, done, applied, answer}
-use Rattle.words.specs.Exact.{Cleared, Begun, Tried, Answered, SizeRead, EventsRead, SiteRead}
+use Rattle.words.specs.Exact.{Cleared, Begun, Tried, Stepped, Answered, SizeRead, EventsRead, SiteRead}
 use Rattle.words.specs.Shows.{Shown, Shows, Meant, Given, standing}
 use Rattle.words.proofs.Spelling.{people_shown}
 use Rattle.words.proofs.Sending.{sent_shows}
@@ -128,9 +130,15 @@ begin_anew m b n xs a = rw a
 
 -- ---- the promises of the calls: what is exact, and with it what that means
 -- a call that answers with a verdict
-pub judged_meant : (m : Mem) (e : Event) → answer (control_of m) e ≡ Judged (verdict (control_of m) e) → {r : Verdict} {b : Mem}
-    → Tried m e r b → Tried m e r b × ((c : Config) → Shows m c → Meant (Judged r) b c e)
+pub judged_meant : (m : Mem) (e : Event) → answer (control_of m) e ≡ judged (verdict (control_of m) e) → {r : Verdict} {b : Mem}
+    → Tried m e r b → Tried m e r b × ((c : Config) → Shows m c → Meant (judged r) b c e)
 judged_meant m e plain x = (x, λ c k. rw (x.0, x.1, ← plain) (means m c e k))
+
+-- a step, with its own answer
+pub stepped_meant : (m : Mem) (p : ℕ) {r : Result Finished Refusal} {b : Mem} → Stepped m p r b
+    → Stepped m p r b × ((c : Config) → Shows m c → Meant (stepping r) b c (Step p))
+unfolding answer
+stepped_meant m p x = (x, λ c k. rw (x.0, x.1) (means m c (Step p) k))
 
 -- a call that answers with an answer
 pub answered_meant : (m : Mem) (e : Event) {a : Answer} {b : Mem} → Answered m e a b

@@ -1,22 +1,19 @@
 -- What each call does to the words of a memory and what it answers, whatever the memory holds: the exact promise of every call.
 -- An answer is the round machine's own, on what the words spell. Assumes nothing.
-use Rattle.std.specs.Prelude.{ℕ, zero, suc, ◌+◌, ◌-◌, cond, List, [], ◌∷◌, leb, get_or, length, replicate}
+use Rattle.std.specs.Prelude.{ℕ, zero, suc, ◌+◌, ◌-◌, cond, List, [], ◌∷◌, leb, get_or, length, replicate, Option, Some, None, Result, Ok, Err}
 use Rattle.sets.specs.Sets.{empty, with, without, members}
-use Rattle.std.specs.Prelude.{Option, Some, None}
 use Rattle.voting.specs.declared.Message.{Message}
 use Rattle.voting.specs.declared.Holding.{Holding}
 use Rattle.voting.specs.Voting.{rule}
 use Rattle.rounds.specs.declared.Stage.TheVariants.{Sending, Collecting, Pending, Idle}
 use Rattle.rounds.specs.declared.Event.{Event}
 use Rattle.rounds.specs.declared.Event.TheVariants.{Send, Receive, Step, Broadcast}
-use Rattle.rounds.specs.Verdicts.{Verdict}
-use Rattle.rounds.specs.Verdicts.{Accepted}
+use Rattle.rounds.specs.declared.Refusal.{Refusal}
 use Rattle.rounds.specs.Config.{Control}
 use Rattle.rounds.specs.Stages.{stage, index}
-use Rattle.rounds.specs.Verdicts.{open_verdict, ahead, verdict}
+use Rattle.rounds.specs.Verdicts.{Verdict, Accepted, open_verdict, ahead, verdict}
 use Rattle.rounds.specs.Events.{timely, gathered, messages, if_accepted}
-use Rattle.words.specs.declared.Answer.{Answer}
-use Rattle.words.specs.declared.Answer.TheVariants.{Judged, Finished}
+use Rattle.words.specs.declared.Finished.{Finished}
 use Rattle.words.specs.declared.Fate.{Fate}
 use Rattle.words.specs.declared.Fate.TheVariants.{Discarded, Kept, Refused}
 use Rattle.words.specs.declared.Standing.{Standing}
@@ -157,12 +154,32 @@ replayed_verdict m (e ∷ es) = let r = replayed_verdict (applied m e) es in if_
 unfoldable pub night_words : ℕ → List ℕ → List Event → Mem
 night_words n xs es = if_accepted (open_verdict n (length xs)) (replayed (opened n xs) es) blank
 
--- ---- what an event is answered with
+-- ---- what an event is answered with: a refusal, or what an accepted one reports, which is nothing but of a step
+abbrev pub Answer : Type 0
+Answer = Result (Option Finished) Refusal
+
+-- of an event that reports nothing
+unfoldable pub judged : Verdict → Answer
+judged (Ok u) = Ok None
+judged (Err r) = Err r
+
+-- of a step: its own answer always reports
+unfoldable pub finishing : Verdict → Finished → Result Finished Refusal
+finishing (Ok u) f = Ok f
+finishing (Err r) f = Err r
+
+unfoldable pub step_answer : Control → ℕ → Result Finished Refusal
+step_answer c p = finishing (verdict c (Step p)) (record { round = (c.site p).round; heard = (c.site p).heard })
+
+unfoldable pub stepping : Result Finished Refusal → Answer
+stepping (Ok f) = Ok (Some f)
+stepping (Err r) = Err r
+
 unfoldable pub answer : Control → Event → Answer
-answer c (Send p q) = Judged (verdict c (Send p q))
-answer c (Receive p q) = Judged (verdict c (Receive p q))
-answer c (Step p) = if_accepted (verdict c (Step p)) (Finished (c.site p).round (c.site p).heard) (Judged (verdict c (Step p)))
-answer c (Broadcast p) = Judged (verdict c (Broadcast p))
+answer c (Send p q) = judged (verdict c (Send p q))
+answer c (Receive p q) = judged (verdict c (Receive p q))
+answer c (Step p) = stepping (step_answer c p)
+answer c (Broadcast p) = judged (verdict c (Broadcast p))
 
 -- ---- what is shown of a process; of one that is not there, nothing
 unfoldable pub nobody : Standing

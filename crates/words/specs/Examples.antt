@@ -10,16 +10,15 @@ use Rattle.rounds.specs.Config.{Control, Config}
 use Rattle.rounds.specs.Events.{if_accepted, apply}
 use Rattle.rounds.specs.Runs.{told}
 use Rattle.rounds.specs.Examples.{run, equal, leads, lines, round_of_two, alone, seven_and_four, seven_four_two, one_one_zero, apart, together, split, whole, trace1, overtaken}
-use Rattle.words.specs.declared.Answer.{Answer}
 use Rattle.words.specs.declared.Standing.{Standing}
 use Rattle.words.specs.Layout.{Mem, VALUE, REACH, Line, Transit, get, put, ◌:=◌, writes}
 use Rattle.words.specs.Spelled.{word, choice, flag_of, word_of, people, site_of, holding_of, message_of, carried_of, control_of, count_of}
-use Rattle.words.specs.Calls.{blank, placed, placed_below, opened, begins, counted, settled, begun, fate, marked, posted, delivered, sent, taken, received, messages_below, reach_below, held, advanced, stepped, sent_below, done, applied, answer, nobody, standing_of}
+use Rattle.words.specs.Calls.{blank, placed, placed_below, opened, begins, counted, settled, begun, fate, marked, posted, delivered, sent, taken, received, messages_below, reach_below, held, advanced, stepped, sent_below, done, applied, Answer, judged, finishing, step_answer, stepping, answer, nobody, standing_of}
 use Rattle.words.specs.Shows.{verdict_of, actor, reported, standing}
 
 -- the memory after the events. To unfold it is to unfold the whole machine in memory: its `unfolding` line names all of it
 unfoldable pub memory : Mem → List Event → Mem
-unfolding run open_verdict get put word choice flag_of word_of people site_of holding_of message_of carried_of control_of count_of blank placed placed_below opened begins counted settled begun fate marked posted delivered sent taken received messages_below reach_below held advanced stepped sent_below done applied answer nobody standing_of verdict_of actor reported standing
+unfolding run open_verdict get put word choice flag_of word_of people site_of holding_of message_of carried_of control_of count_of blank placed placed_below opened begins counted settled begun fate marked posted delivered sent taken received messages_below reach_below held advanced stepped sent_below done applied judged finishing step_answer stepping answer nobody standing_of verdict_of actor reported standing
 memory m [] = m
 memory m (e ∷ es) = memory (applied m e) es
 

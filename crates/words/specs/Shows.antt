@@ -1,12 +1,11 @@
 -- When the words of a memory show a configuration of the abstract round machine, and what an answered event means then.
 -- Assumes nothing.
-use Rattle.std.specs.Prelude.{ℕ, ◌+◌, ◌-◌, ◌*◌, ◌≤◌, ◌<◌, ◌≡◌, List, [], ◌∷◌, get_or, length}
+use Rattle.std.specs.Prelude.{ℕ, ◌+◌, ◌-◌, ◌*◌, ◌≤◌, ◌<◌, ◌≡◌, List, [], ◌∷◌, get_or, length, Some, None, Ok, Err}
 use Rattle.rounds.specs.declared.Stage.{Stage}
 use Rattle.rounds.specs.declared.Stage.TheVariants.{Sending, Collecting, Pending, Idle}
 use Rattle.rounds.specs.declared.Event.{Event}
 use Rattle.rounds.specs.declared.Event.TheVariants.{Send, Receive, Step, Broadcast}
-use Rattle.rounds.specs.Verdicts.{Verdict}
-use Rattle.rounds.specs.Verdicts.{Accepted}
+use Rattle.rounds.specs.Verdicts.{Verdict, Accepted}
 use Rattle.rounds.specs.Limits.{most_processes, window}
 use Rattle.rounds.specs.Config.{Control, Content, Config}
 use Rattle.rounds.specs.Stages.{stage, index, one}
@@ -14,12 +13,10 @@ use Rattle.rounds.specs.Events.{apply}
 use Rattle.rounds.specs.Runs.{Report}
 use Rattle.rounds.specs.Course.{FromOpening}
 use Rattle.rounds.specs.Claims.{Live}
-use Rattle.words.specs.declared.Answer.{Answer}
-use Rattle.words.specs.declared.Answer.TheVariants.{Judged, Finished}
 use Rattle.words.specs.declared.Standing.{Standing}
 use Rattle.words.specs.Layout.{Mem, RUN, Head, Line, Transit, get, SIZE, EVENTS, SINCE, COUNTS}
 use Rattle.words.specs.Spelled.{site_of, holding_of, message_of, carried_of}
-use Rattle.words.specs.Calls.{answer}
+use Rattle.words.specs.Calls.{Answer, answer}
 
 -- ---- of one process: its words spell what the configuration holds of it. Of what is in transit, the rounds of the window have a place; of the
 -- mail, what is in transit or heard. The counts are settled up to a past event; those since then belong to the stage that it is at
@@ -54,8 +51,8 @@ pub record Meant (a : Answer) (m : Mem) (c : Config) (e : Event) : Type 0 where
 
 -- the verdict that an answer gives, and the heard-of sets that it reports
 unfoldable pub verdict_of : Answer → Verdict
-verdict_of (Judged v) = v
-verdict_of (Finished r h) = Accepted
+verdict_of (Ok _) = Accepted
+verdict_of (Err r) = Err r
 
 unfoldable pub actor : Event → ℕ
 actor (Send p q) = p
@@ -64,8 +61,9 @@ actor (Step p) = p
 actor (Broadcast p) = p
 
 unfoldable pub reported : Event → Answer → List Report
-reported e (Judged v) = []
-reported e (Finished r h) = record { process = actor e; round = r; heard = h } ∷ []
+reported e (Ok None) = []
+reported e (Ok (Some f)) = record { process = actor e; round = f.round; heard = f.heard } ∷ []
+reported e (Err r) = []
 
 -- ---- the values of an opening: process p has the p-th of the list
 pub record Given (n : ℕ) (xs : List ℕ) (v : ℕ → ℕ) : Type 0 where

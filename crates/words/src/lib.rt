@@ -4,20 +4,20 @@
 ghost use Rattle.std.specs.Prelude.{◌≡◌};
 ghost use Rattle.words.specs.Shows.{verdict_of};
 
-use rounds::Verdict;
-use voting::Choice;
+use rounds::{Refusal, Verdict};
 
-// What an event is answered with.
-#[derive(Clone, Copy)]
-pub enum Answer {
-    // Refused with this verdict; or accepted, with nothing to report.
-    Judged(Verdict),
-    // A step was accepted: the round that it finished, and who was heard in it.
-    Finished(u32, u32),
+// What an accepted step reports: the round that it finished, and who was heard in it.
+#[derive(Clone, Copy, Debug, PartialEq, Eq)]
+pub struct Finished {
+    pub round: u32,
+    pub heard: u32,
 }
 
+// What an event is answered with: a refusal; or, where it is accepted, what a step reports, and nothing of another event.
+pub type Answer = Result<Option<Finished>, Refusal>;
+
 // What the lead of a sender says of its message.
-#[derive(Clone, Copy)]
+#[derive(Clone, Copy, Debug, PartialEq, Eq)]
 pub enum Fate {
     // It is late, and not put in transit. A lead above the window, which no run has, discards it too.
     Discarded,
@@ -27,12 +27,12 @@ pub enum Fate {
 }
 
 // All that a report or a sheet shows of a process.
-#[derive(Clone, Copy)]
+#[derive(Clone, Copy, Debug, PartialEq, Eq)]
 pub struct Standing {
     pub round: u32,
     pub value: u32,
-    pub vote: Choice,
-    pub decision: Choice,
+    pub vote: Option<u32>,
+    pub decision: Option<u32>,
     pub reach: u32,
     pub sending: u32,
     pub collecting: u32,
@@ -41,11 +41,9 @@ pub struct Standing {
 }
 
 // The verdict of an answer.
+#[tactic(auto, unfolding(crate::specs::Shows::verdict_of))]
 pub fn verdict(a: Answer) -> Verdict
     ensures { result ≡ verdict_of a }
 {
-    match a {
-        Answer::Judged(v) => v,
-        Answer::Finished(_, _) => Verdict::Accepted,
-    }
+    a.map(|_| ())
 }
