@@ -1,47 +1,127 @@
 -- What an accepted event or opening tells of its numbers, whatever the memory holds.
 -- Assumes nothing.
-use Rattle.std.proofs.Common.{◌≡◌, ℕ, ◌<◌, ◌≤◌, Bool, true, sym, ap, ◌∙◌, arith}
+use Rattle.std.proofs.Common.{◌≡◌, ℕ, zero, suc, ◌<◌, ◌≤◌, ◌+◌, Bool, true, false, cond, ◌&&◌, eqb, ltb, leb, refl, ltb-true, eqb-true, Result, Ok, Err, is_ok, IsErrAnd, sym, ap, ◌∙◌, arith}
+use Rattle.std.proofs.Common.{le-ltb, lt-ltb, le-leb, eq-eqb, ne_eqb}
+use native.Mathlib.Decide.{ℕ_discrete}
+use borrow.Author.Tests.{lt-leb}
 use Rattle.rounds.specs.Limits.{most_processes}
-use Rattle.rounds.specs.declared.Verdict.{Verdict}
 use Rattle.rounds.specs.declared.Event.TheVariants.{Send, Receive, Broadcast}
-use Rattle.rounds.specs.Verdicts.{accepted, open_verdict, verdict}
-use Rattle.rounds.proofs.Answers.{opens_right, allowed}
+use Rattle.rounds.specs.declared.Refusal.{Refusal}
+use Rattle.rounds.specs.Verdicts.{Verdict, Accepted, accepted, ahead, open_verdict, first_refusal, verdict}
+use Rattle.rounds.specs.Config.{Config}
+use Rattle.rounds.specs.Events.{if_accepted}
+use Rattle.rounds.specs.declared.Event.{Event}
+use Rattle.rounds.proofs.Answers.{accepted_is, opens_right, allowed}
 use Rattle.words.specs.Layout.{Mem}
 use Rattle.words.specs.Spelled.{people, control_of}
+use Rattle.words.specs.declared.Fate.{Fate}
+use Rattle.words.specs.declared.Fate.TheVariants.{Discarded, Kept, Refused}
+use Rattle.rounds.specs.Limits.{window}
+use Rattle.rounds.specs.Events.{timely}
+use Rattle.words.specs.Calls.{fate, judged, done, applied, answer}
+use Rattle.words.specs.Exact.{Tried}
+use Rattle.words.specs.Shows.{Shows, Meant}
+use Rattle.words.proofs.Meaning.{judged_meant}
 use Rattle.words.proofs.Reading.{people_most}
 
-pub send_told : (m : Mem) (p q : ℕ) → accepted (verdict (control_of m) (Send p q)) ≡ true → (p < most_processes) × (q < most_processes)
+pub send_told : (m : Mem) (p q : ℕ) → Accepted ≡ verdict (control_of m) (Send p q) → (p < most_processes) × (q < most_processes)
 unfolding control_of
 send_told m p q e =
-    let a = allowed (control_of m) (Send p q) e in
+    let a = allowed (control_of m) (Send p q) (accepted_is _ (sym e)) in
     let most = people_most m in
     let from : p < people m = a.from in
     let to : q < people m = a.to in
     (omega arith, omega arith)
 
-pub receive_told : (m : Mem) (p q : ℕ) → accepted (verdict (control_of m) (Receive p q)) ≡ true → q < most_processes
+pub receive_told : (m : Mem) (p q : ℕ) → Accepted ≡ verdict (control_of m) (Receive p q) → q < most_processes
 unfolding control_of
 receive_told m p q e =
-    let a = allowed (control_of m) (Receive p q) e in
+    let a = allowed (control_of m) (Receive p q) (accepted_is _ (sym e)) in
     let most = people_most m in
     let from : q < people m = a.from in
     omega arith
 
-pub broadcast_told : (m : Mem) (p : ℕ) → accepted (verdict (control_of m) (Broadcast p)) ≡ true → p < most_processes
+pub broadcast_told : (m : Mem) (p : ℕ) → Accepted ≡ verdict (control_of m) (Broadcast p) → p < most_processes
 unfolding control_of
 broadcast_told m p e =
-    let a = allowed (control_of m) (Broadcast p) e in
+    let a = allowed (control_of m) (Broadcast p) (accepted_is _ (sym e)) in
     let most = people_most m in
     let who : p < people m = a.who in
     omega arith
 
-pub opening_told : (n given : ℕ) → accepted (open_verdict n given) ≡ true → given ≤ most_processes
+pub opening_told : (n given : ℕ) → Accepted ≡ open_verdict n given → given ≤ most_processes
 opening_told n given e =
-    let o = opens_right n given e in
+    let o = opens_right n given (accepted_is _ (sym e)) in
     let each = o.each in
     let most = o.most in
     omega arith
 
--- from what a judge answered and the test of its answer: the test of the verdict
-pub answered : {v w : Verdict} {a t : Bool} → v ≡ w → a ≡ accepted v → a ≡ t → accepted w ≡ t
-answered p q r = ap accepted (sym p) ∙ sym q ∙ r
+-- what a test of numbers says, either way
+pub ruleset tests = (lt-leb, le-leb, lt-ltb, le-ltb, eq-eqb, ne_eqb)
+
+-- ---- a send is refused for its lead exactly where its fate is so
+refused : Fate → Bool
+refused Discarded = false
+refused Kept = false
+refused Refused = true
+
+ahead_fate : (r s : ℕ) → ahead r s ≡ refused (fate r s)
+unfolding fate timely ahead refused
+ahead_fate r s = go (leb s r) (ltb r (s + window)) (eqb r (s + window)) refl refl
+  where
+    go : (l t a : Bool) → ltb r (s + window) ≡ t → eqb r (s + window) ≡ a → a ≡ refused (cond (l && t) Kept (cond a Refused Discarded))
+    go true true true h k = absurd (let x = ltb-true r (s + window) h in let y = eqb-true r (s + window) k in omega arith)
+    go true true false h k = refl
+    go true false true h k = refl
+    go true false false h k = refl
+    go false t true h k = refl
+    go false t false h k = refl
+
+module _ (r s : ℕ) where
+  pub fate_discarded : Discarded ≡ fate r s → ahead r s ≡ false
+  unfolding refused
+  fate_discarded e = ahead_fate r s ∙ rw (← e)
+
+  pub fate_kept : Kept ≡ fate r s → ahead r s ≡ false
+  unfolding refused
+  fate_kept e = ahead_fate r s ∙ rw (← e)
+
+  pub fate_refused : Refused ≡ fate r s → ahead r s ≡ true
+  unfolding refused
+  fate_refused e = ahead_fate r s ∙ rw (← e)
+
+pub ruleset fates = (fate_discarded, fate_kept, fate_refused)
+
+-- ---- a judge's answer and what a call makes of it
+-- a refusal that `?` hands on is the refusal
+pub handed_on : {E : Type 0} {v w : Result E Refusal} {r : Refusal} → IsErrAnd v (λ e. e ≡ r) → Err r ≡ w → v ≡ w
+handed_on {v = Ok u} h e = absurd h
+handed_on {v = Err s} h e = ap Err h ∙ e
+
+-- a test of each in turn: the first refusal is that of all
+pub first_is : (n q : ℕ) (f : ℕ → Verdict) (r : Refusal) → q < n → first_refusal q f ≡ Accepted → Err r ≡ f q → Err r ≡ first_refusal n f
+unfolding first_refusal accepted
+first_is zero q f r h a e = absurd (omega arith)
+first_is (suc n) q f r h a e = go (ℕ_discrete q n) (λ k. first_is n q f r k a e)
+  where
+    go : Dec (q ≡ n) → (q < n → Err r ≡ first_refusal n f) → Err r ≡ cond (is_ok (first_refusal n f)) (f n) (first_refusal n f)
+    go (yes k) ih = rw (← k, a) e
+    go (no k) ih = rw (← ih (omega arith))
+
+module _ (m : Mem) (e : Event) where
+  applied_accepted : {b : Mem} → Accepted ≡ verdict (control_of m) e → b ≡ done m e → b ≡ applied m e
+  unfolding applied if_accepted accepted
+  applied_accepted a d = rw (← a, d)
+
+  applied_refused : {r : Refusal} → Err r ≡ verdict (control_of m) e → m ≡ applied m e
+  unfolding applied if_accepted accepted
+  applied_refused a = rw (← a)
+
+  module _ (plain : answer (control_of m) e ≡ judged (verdict (control_of m) e)) where
+    pub accepted_call : {b : Mem} → Accepted ≡ verdict (control_of m) e → b ≡ done m e
+        → Tried m e Accepted b × ((c : Config) → Shows m c → Meant (judged Accepted) b c e)
+    accepted_call a d = judged_meant m e plain (a, applied_accepted a d)
+
+    pub refused_call : {v : Verdict} {r : Refusal} → IsErrAnd v (λ e. e ≡ r) → Err r ≡ verdict (control_of m) e
+        → Tried m e v m × ((c : Config) → Shows m c → Meant (judged v) m c e)
+    refused_call h a = judged_meant m e plain (handed_on h a, applied_refused a)

@@ -1,56 +1,43 @@
 // A broadcast: its verdict, and its sends one after the other.
-ghost use Rattle.std.specs.Prelude.{◌≡◌, ◌<◌, ◌≤◌, if◌then◌else◌};
+ghost use Rattle.std.specs.Prelude.{◌≡◌, ◌<◌, ◌≤◌};
 ghost use Rattle.rounds.specs.declared.Event.TheVariants.{Broadcast};
 ghost use Rattle.rounds.specs.Limits.{most_processes};
 ghost use Rattle.rounds.specs.Config.{Config};
-ghost use Rattle.rounds.specs.Verdicts as Verdicts;
 ghost use Rattle.rounds.specs.Verdicts.{verdict, send_verdict, first_refusal};
-ghost use Rattle.words.specs.declared.Answer.TheVariants.{Judged};
+ghost use Rattle.words.specs.Calls.{judged};
 ghost use Rattle.words.specs.Spelled.{control_of};
 ghost use Rattle.words.specs.Calls as Calls;
 ghost use Rattle.words.specs.Exact.{Tried};
 ghost use Rattle.words.specs.Shows.{Shows, Meant};
 
-use crate::accepted;
 use crate::cells::*;
 use crate::limits::*;
 use crate::sending::{carry_send, judge_target};
 use crate::spelled::*;
-use rounds::Verdict;
-
-// A refusal that came before goes through.
-fn judge_next(run: &[u32; RUN], p: u32, q: u32, v: Verdict) -> Verdict
-    ensures { result ≡ (if Verdicts.accepted v then send_verdict (control_of run.now) p q else v) }
-{
-    if accepted(v) {
-        return judge_target(run, p, q);
-    }
-    v
-}
+use rounds::{Refusal, Verdict};
 
 // The first refusal among the targets below n.
+#[tactic(auto, unfolding(rounds::specs::Verdicts::first_refusal))]
 fn judge_targets(run: &[u32; RUN], p: u32, n: u32) -> Verdict
     ensures { result ≡ first_refusal n (send_verdict (control_of run.now) p) }
 {
-    let mut v = Verdict::Accepted;
-    let mut q: u32 = 0;
-    while q < n {
-        v = judge_next(run, p, q, v);
-        q = q + 1;
+    for q in 0..n {
+        judge_target(run, p, q)?;
     }
-    v
+    Ok(())
 }
 
 // The tests of a broadcast, in document 01's order: room for all its events at once, then its targets.
+#[tactic(auto, using(crate::proofs::Told::tests), unfolding(rounds::specs::Verdicts::verdict, rounds::specs::Verdicts::outside, rounds::specs::Verdicts::crowded, rounds::specs::Verdicts::refuse, words::specs::Spelled::control_of))]
 fn judge_broadcast(run: &[u32; RUN], p: u32) -> Verdict
     ensures { result ≡ verdict (control_of run.now) (Broadcast p) }
 {
     let n = people(run);
     if n <= p {
-        return Verdict::NoProcess;
+        return Err(Refusal::NoProcess);
     }
     if MOST_EVENTS - n < head(run, EVENTS) {
-        return Verdict::TooManyEvents;
+        return Err(Refusal::TooManyEvents);
     }
     judge_targets(run, p, n)
 }
@@ -70,13 +57,11 @@ fn carry_sends(run: &mut [u32; RUN], p: u32, n: u32)
 // Process p sends to all.
 pub fn broadcast(run: &mut [u32; RUN], p: u8) -> Verdict
     ensures exact { Tried run.old (Broadcast p) result run.new }
-    ensures meaning { (c : Config) → Shows run.old c → Meant (Judged result) run.new c (Broadcast p) }
+    ensures meaning { (c : Config) → Shows run.old c → Meant (judged result) run.new c (Broadcast p) }
 {
     let i = p as u32;
-    let n = people(&*run);
-    let v = judge_broadcast(&*run, i);
-    if accepted(v) {
-        carry_sends(&mut *run, i, n);
-    }
-    v
+    judge_broadcast(run, i)?;
+    let n = people(run);
+    carry_sends(run, i, n);
+    Ok(())
 }

@@ -15,7 +15,6 @@ mod stepping;
 
 ghost use Rattle.std.specs.Prelude.{◌≡◌};
 ghost use Rattle.rounds.specs.Config.{Config};
-ghost use Rattle.rounds.specs.Verdicts as Verdicts;
 ghost use Rattle.words.specs.Exact.{Answered};
 ghost use Rattle.words.specs.Shows.{Shows, Meant};
 
@@ -25,27 +24,21 @@ pub use limits::MOST_PROCESSES;
 pub use opening::{begin, clear};
 pub use reading::{events, site, size};
 pub use receiving::receive;
-use rounds::{Event, Verdict};
+use rounds::Event;
 pub use sending::send;
 pub use stepping::step;
 use words::Answer;
 
-// Whether a verdict accepts.
-pub(crate) fn accepted(v: Verdict) -> bool
-    ensures { result ≡ Verdicts.accepted v }
-{
-    rounds::number(v) == 0
-}
-
 // Any event.
+#[tactic(auto, using(words::proofs::Meaning::answered_meant), unfolding(words::specs::Calls::answer, words::specs::Calls::judged, words::specs::Calls::stepping))]
 pub fn apply(run: &mut [u32; RUN], e: Event) -> Answer
     ensures exact { Answered run.old e result run.new }
     ensures meaning { (c : Config) → Shows run.old c → Meant result run.new c e }
 {
     match e {
-        Event::Send(p, q) => Answer::Judged(send(&mut *run, p, q)),
-        Event::Receive(p, q) => Answer::Judged(receive(&mut *run, p, q)),
-        Event::Step(p) => step(&mut *run, p),
-        Event::Broadcast(p) => Answer::Judged(broadcast(&mut *run, p)),
+        Event::Send(p, q) => send(run, p, q).map(|()| None),
+        Event::Receive(p, q) => receive(run, p, q).map(|()| None),
+        Event::Step(p) => step(run, p).map(Some),
+        Event::Broadcast(p) => broadcast(run, p).map(|()| None),
     }
 }

@@ -2,32 +2,28 @@
 ghost use Rattle.std.specs.Prelude.{◌≡◌, ℕ, ◌<◌, ◌≤◌, length};
 ghost use Rattle.rounds.specs.Limits.{most_processes};
 ghost use Rattle.rounds.specs.Config.{opening, no_run};
-ghost use Rattle.rounds.specs.Verdicts.{open_verdict};
-ghost use Rattle.rounds.specs.declared.Verdict.TheVariants.{Accepted};
+ghost use Rattle.rounds.specs.Verdicts.{Accepted, open_verdict};
 ghost use Rattle.words.specs.Layout as Layout;
 ghost use Rattle.words.specs.Calls as Calls;
 ghost use Rattle.words.specs.Exact.{Cleared, Begun};
 ghost use Rattle.words.specs.Shows.{Shows, Given};
 
-use crate::accepted;
 use crate::cells::*;
 use crate::limits::*;
-use rounds::Verdict;
+use rounds::{Refusal, Verdict};
 
 // The tests of an opening, in document 01's order.
+#[tactic(auto, using(crate::proofs::Told::tests), unfolding(rounds::specs::Verdicts::open_verdict, rounds::specs::Verdicts::refuse))]
 fn judge_opening(n: u32, given: usize) -> Verdict
     ensures { result ≡ open_verdict n given }
 {
-    if n == 0 {
-        return Verdict::BadSize;
-    }
-    if MOST_PROCESSES < n {
-        return Verdict::BadSize;
+    if n == 0 || MOST_PROCESSES < n {
+        return Err(Refusal::BadSize);
     }
     if given != n as usize {
-        return Verdict::WrongCount;
+        return Err(Refusal::WrongCount);
     }
-    Verdict::Accepted
+    Ok(())
 }
 
 // How many words a run has.
@@ -79,11 +75,9 @@ pub fn begin(run: &mut [u32; RUN], n: u32, values: &[u32]) -> Verdict
     ensures exact { Begun run.old n values.now result run.new }
     ensures meaning { result ≡ Accepted → (v : ℕ → ℕ) → Given n values.now v → Shows run.new (opening n v) }
 {
-    let v = judge_opening(n, values.len());
-    if accepted(v) {
-        clear(&mut *run);
-        set_head(&mut *run, SIZE, n);
-        place_all(&mut *run, values);
-    }
-    v
+    judge_opening(n, values.len())?;
+    clear(run);
+    set_head(run, SIZE, n);
+    place_all(run, values);
+    Ok(())
 }

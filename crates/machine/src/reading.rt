@@ -10,7 +10,6 @@ use crate::cells::*;
 use crate::settling::*;
 use crate::spelled::*;
 use rounds::Stage;
-use voting::Choice;
 use words::Standing;
 
 // The number of processes.
@@ -63,8 +62,8 @@ pub fn site(run: &[u32; RUN], p: u8) -> Standing
         return Standing {
             round: 0,
             value: 0,
-            vote: Choice::Absent,
-            decision: Choice::Absent,
+            vote: None,
+            decision: None,
             reach: 0,
             sending: 0,
             collecting: 0,

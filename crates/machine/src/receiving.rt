@@ -4,37 +4,34 @@ ghost use Rattle.rounds.specs.declared.Event.TheVariants.{Receive};
 ghost use Rattle.rounds.specs.Limits.{most_processes};
 ghost use Rattle.rounds.specs.Config.{Config};
 ghost use Rattle.rounds.specs.Verdicts.{verdict};
-ghost use Rattle.words.specs.declared.Answer.TheVariants.{Judged};
+ghost use Rattle.words.specs.Calls.{judged};
 ghost use Rattle.words.specs.Spelled.{control_of};
 ghost use Rattle.words.specs.Calls as Calls;
 ghost use Rattle.words.specs.Exact.{Tried};
 ghost use Rattle.words.specs.Shows.{Shows, Meant};
 
-use crate::accepted;
 use crate::cells::*;
 use crate::limits::*;
 use crate::settling::*;
 use crate::spelled::*;
-use rounds::Verdict;
+use rounds::{Refusal, Verdict};
 
 // The tests of a receive, in document 01's order.
+#[tactic(auto, using(crate::proofs::Told::tests), unfolding(rounds::specs::Verdicts::verdict, rounds::specs::Verdicts::receive_verdict, rounds::specs::Verdicts::outside, rounds::specs::Verdicts::crowded, rounds::specs::Verdicts::refuse, words::specs::Spelled::control_of, words::specs::Spelled::site_of))]
 fn judge_receive(run: &[u32; RUN], p: u32, q: u32) -> Verdict
     ensures { result ≡ verdict (control_of run.now) (Receive p q) }
 {
     let n = people(run);
-    if n <= p {
-        return Verdict::NoProcess;
-    }
-    if n <= q {
-        return Verdict::NoProcess;
+    if n <= p || n <= q {
+        return Err(Refusal::NoProcess);
     }
     if MOST_EVENTS <= head(run, EVENTS) {
-        return Verdict::TooManyEvents;
+        return Err(Refusal::TooManyEvents);
     }
-    if sets::has(transit(run, p, line(run, p, ROUND)), q) {
-        return Verdict::Accepted;
+    if !sets::has(transit(run, p, line(run, p, ROUND)), q) {
+        return Err(Refusal::NothingInTransit);
     }
-    Verdict::NothingInTransit
+    Ok(())
 }
 
 // The message of q to p is heard.
@@ -61,13 +58,11 @@ fn carry_receive(run: &mut [u32; RUN], p: u32, q: u32)
 // Process p receives from q.
 pub fn receive(run: &mut [u32; RUN], p: u8, q: u8) -> Verdict
     ensures exact { Tried run.old (Receive p q) result run.new }
-    ensures meaning { (c : Config) → Shows run.old c → Meant (Judged result) run.new c (Receive p q) }
+    ensures meaning { (c : Config) → Shows run.old c → Meant (judged result) run.new c (Receive p q) }
 {
     let i = p as u32;
     let j = q as u32;
-    let v = judge_receive(&*run, i, j);
-    if accepted(v) {
-        carry_receive(&mut *run, i, j);
-    }
-    v
+    judge_receive(run, i, j)?;
+    carry_receive(run, i, j);
+    Ok(())
 }

@@ -4,18 +4,17 @@ ghost use Rattle.rounds.specs.declared.Event.TheVariants.{Send};
 ghost use Rattle.rounds.specs.Limits.{most_processes};
 ghost use Rattle.rounds.specs.Config.{Config};
 ghost use Rattle.rounds.specs.Verdicts.{verdict, send_verdict};
-ghost use Rattle.words.specs.declared.Answer.TheVariants.{Judged};
+ghost use Rattle.words.specs.Calls.{judged};
 ghost use Rattle.words.specs.Spelled.{control_of};
 ghost use Rattle.words.specs.Calls as Calls;
 ghost use Rattle.words.specs.Exact.{Tried};
 ghost use Rattle.words.specs.Shows.{Shows, Meant};
 
-use crate::accepted;
 use crate::cells::*;
 use crate::limits::*;
 use crate::settling::*;
 use crate::spelled::*;
-use rounds::Verdict;
+use rounds::{Refusal, Verdict};
 use words::Fate;
 
 // What becomes of a message of a sender at round r to a receiver at round s: the lead is a signed number.
@@ -36,32 +35,30 @@ fn fate(r: u32, s: u32) -> Fate
 }
 
 // The verdict on a send by its target alone.
+#[tactic(auto, using(crate::proofs::Told::fates), unfolding(rounds::specs::Verdicts::send_verdict, rounds::specs::Verdicts::refuse, words::specs::Spelled::control_of, words::specs::Spelled::site_of))]
 pub(crate) fn judge_target(run: &[u32; RUN], p: u32, q: u32) -> Verdict
     ensures { result ≡ send_verdict (control_of run.now) p q }
 {
     if sets::has(line(run, p, SENT), q) {
-        return Verdict::AlreadySent;
+        return Err(Refusal::AlreadySent);
     }
     match fate(line(run, p, ROUND), line(run, q, ROUND)) {
-        Fate::Discarded => Verdict::Accepted,
-        Fate::Kept => Verdict::Accepted,
-        Fate::Refused => Verdict::TooFarAhead,
+        Fate::Discarded | Fate::Kept => Ok(()),
+        Fate::Refused => Err(Refusal::TooFarAhead),
     }
 }
 
 // The tests of a send, in document 01's order.
+#[tactic(auto, using(crate::proofs::Told::tests), unfolding(rounds::specs::Verdicts::verdict, rounds::specs::Verdicts::outside, rounds::specs::Verdicts::crowded, rounds::specs::Verdicts::refuse, words::specs::Spelled::control_of))]
 fn judge_send(run: &[u32; RUN], p: u32, q: u32) -> Verdict
     ensures { result ≡ verdict (control_of run.now) (Send p q) }
 {
     let n = people(run);
-    if n <= p {
-        return Verdict::NoProcess;
-    }
-    if n <= q {
-        return Verdict::NoProcess;
+    if n <= p || n <= q {
+        return Err(Refusal::NoProcess);
     }
     if MOST_EVENTS <= head(run, EVENTS) {
-        return Verdict::TooManyEvents;
+        return Err(Refusal::TooManyEvents);
     }
     judge_target(run, p, q)
 }
@@ -94,16 +91,14 @@ fn post(run: &mut [u32; RUN], p: u32, q: u32)
 }
 
 // A message that is kept is put in transit.
+#[tactic(auto, unfolding(words::specs::Calls::delivered))]
 fn deliver(run: &mut [u32; RUN], f: Fate, p: u32, q: u32)
     requires { p < most_processes }
     ensures { run.new ≡ Calls.delivered f run.old p q }
 {
     match f {
-        Fate::Discarded => {}
-        Fate::Kept => {
-            post(&mut *run, p, q);
-        }
-        Fate::Refused => {}
+        Fate::Kept => post(run, p, q),
+        Fate::Discarded | Fate::Refused => {}
     }
 }
 
@@ -122,13 +117,11 @@ pub(crate) fn carry_send(run: &mut [u32; RUN], p: u32, q: u32)
 // Process p sends to q.
 pub fn send(run: &mut [u32; RUN], p: u8, q: u8) -> Verdict
     ensures exact { Tried run.old (Send p q) result run.new }
-    ensures meaning { (c : Config) → Shows run.old c → Meant (Judged result) run.new c (Send p q) }
+    ensures meaning { (c : Config) → Shows run.old c → Meant (judged result) run.new c (Send p q) }
 {
     let i = p as u32;
     let j = q as u32;
-    let v = judge_send(&*run, i, j);
-    if accepted(v) {
-        carry_send(&mut *run, i, j);
-    }
-    v
+    judge_send(run, i, j)?;
+    carry_send(run, i, j);
+    Ok(())
 }

@@ -8,7 +8,7 @@ ghost use Rattle.words.specs.Spelled.{flag_of, word_of, holding_of, message_of, 
 
 use crate::cells::*;
 use crate::limits::*;
-use voting::{Choice, Holding, Message};
+use voting::{Holding, Message};
 
 // The number of processes; a memory that says more than the most has none.
 pub(crate) fn people(run: &[u32; RUN]) -> u32
@@ -22,32 +22,25 @@ pub(crate) fn people(run: &[u32; RUN]) -> u32
 }
 
 // A choice stands in two words: whether it is present, and what it is.
-fn choice(flag: u32, x: u32) -> Choice
+#[tactic(auto, unfolding(words::specs::Spelled::choice))]
+fn choice(flag: u32, x: u32) -> Option<u32>
     ensures { result ≡ Spelled.choice flag x }
 {
-    if flag == 0 {
-        Choice::Absent
-    } else {
-        Choice::Present(x)
-    }
+    if flag == 0 { None } else { Some(x) }
 }
 
-pub(crate) fn flag_of(c: Choice) -> u32
+#[tactic(auto, unfolding(words::specs::Spelled::flag_of))]
+pub(crate) fn flag_of(c: Option<u32>) -> u32
     ensures { result ≡ flag_of c }
 {
-    match c {
-        Choice::Absent => 0,
-        Choice::Present(_) => 1,
-    }
+    u32::from(c.is_some())
 }
 
-pub(crate) fn word_of(c: Choice) -> u32
+#[tactic(auto, unfolding(words::specs::Spelled::word_of))]
+pub(crate) fn word_of(c: Option<u32>) -> u32
     ensures { result ≡ word_of c }
 {
-    match c {
-        Choice::Absent => 0,
-        Choice::Present(x) => x,
-    }
+    c.unwrap_or(0)
 }
 
 // What process p holds.

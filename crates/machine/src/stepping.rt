@@ -6,18 +6,17 @@ ghost use Rattle.rounds.specs.Config.{Config};
 ghost use Rattle.rounds.specs.Verdicts.{verdict};
 ghost use Rattle.words.specs.Spelled.{control_of};
 ghost use Rattle.words.specs.Calls as Calls;
-ghost use Rattle.words.specs.Calls.{messages_below, reach_below};
-ghost use Rattle.words.specs.Exact.{Answered};
+ghost use Rattle.words.specs.Calls.{messages_below, reach_below, stepping};
+ghost use Rattle.words.specs.Exact.{Stepped};
 ghost use Rattle.words.specs.Shows.{Shows, Meant};
 
-use crate::accepted;
 use crate::cells::*;
 use crate::limits::*;
 use crate::settling::*;
 use crate::spelled::*;
-use rounds::Verdict;
+use rounds::{Refusal, Verdict};
 use voting::{Holding, Tally};
-use words::Answer;
+use words::Finished;
 
 // What a process has heard in a round, and its reach with what it heard.
 #[derive(Clone, Copy)]
@@ -83,23 +82,24 @@ fn advance(run: &mut [u32; RUN], p: u32, r: u32, reach: u32)
 }
 
 // The tests of a step, in document 01's order.
+#[tactic(auto, using(crate::proofs::Told::tests), unfolding(rounds::specs::Verdicts::verdict, rounds::specs::Verdicts::step_verdict, rounds::specs::Stages::sent_to_all, rounds::specs::Verdicts::outside, rounds::specs::Verdicts::crowded, rounds::specs::Verdicts::refuse, words::specs::Spelled::control_of, words::specs::Spelled::site_of))]
 fn judge_step(run: &[u32; RUN], p: u32) -> Verdict
     ensures { result ≡ verdict (control_of run.now) (Step p) }
 {
     let n = people(run);
     if n <= p {
-        return Verdict::NoProcess;
+        return Err(Refusal::NoProcess);
     }
     if MOST_EVENTS <= head(run, EVENTS) {
-        return Verdict::TooManyEvents;
+        return Err(Refusal::TooManyEvents);
     }
     if line(run, p, SENT) != everyone(n) {
-        return Verdict::NotSentToAll;
+        return Err(Refusal::NotSentToAll);
     }
     if line(run, p, ROUND) == LAST_ROUND {
-        return Verdict::LastRound;
+        return Err(Refusal::LastRound);
     }
-    Verdict::Accepted
+    Ok(())
 }
 
 // An accepted step.
@@ -116,17 +116,16 @@ fn carry_step(run: &mut [u32; RUN], p: u32)
 }
 
 // Process p steps to its next round.
-pub fn step(run: &mut [u32; RUN], p: u8) -> Answer
-    ensures exact { Answered run.old (Step p) result run.new }
-    ensures meaning { (c : Config) → Shows run.old c → Meant result run.new c (Step p) }
+pub fn step(run: &mut [u32; RUN], p: u8) -> Result<Finished, Refusal>
+    ensures exact { Stepped run.old p result run.new }
+    ensures meaning { (c : Config) → Shows run.old c → Meant (stepping result) run.new c (Step p) }
 {
     let i = p as u32;
-    let round = line(&*run, i, ROUND);
-    let heard = line(&*run, i, HEARD);
-    let v = judge_step(&*run, i);
-    if accepted(v) {
-        carry_step(&mut *run, i);
-        return Answer::Finished(round, heard);
-    }
-    Answer::Judged(v)
+    judge_step(run, i)?;
+    let finished = Finished {
+        round: line(run, i, ROUND),
+        heard: line(run, i, HEARD),
+    };
+    carry_step(run, i);
+    Ok(finished)
 }

@@ -1,32 +1,22 @@
--- `receive` judges the receive and carries it out where it is accepted; what is accepted tells that its processes are there.
+-- `receive` hands on a refusal, and carries out what is accepted; what is accepted tells that its processes are there.
 -- Assumes nothing.
 use Rattle.std.proofs.Common.{refl}
 use Rattle.rounds.specs.declared.Event.TheVariants.{Receive}
-use Rattle.rounds.specs.Events.{if_accepted}
-use Rattle.words.specs.Calls.{done, applied, answer}
-use Rattle.words.proofs.Meaning.{judged_meant}
-use Rattle.machine.proofs.Told.{receive_told, answered}
+use Rattle.words.specs.Calls.{done, answer}
+use Rattle.machine.proofs.Told.{receive_told, accepted_call, refused_call}
 use Rattle.machine.proofs.receiving.receive.Goals as goal
 
 pub carry_receive-requires : goal.carry_receive-requires
-carry_receive-requires c = receive_told _ _ _ (answered c.judge_receive-v.ensures c.accepted.ensures c.if-accepted.true)
+carry_receive-requires c = receive_told _ _ _ c.in_ok-judge_receive.ensures
 
-pub returns-then-accepted-clause-exact : goal.returns-then-accepted-clause-exact
-unfolding applied done if_accepted answer
-returns-then-accepted-clause-exact c =
-    let judged = c.judge_receive-v.ensures in
-    (judged, rw (answered judged c.accepted.ensures c.if-accepted.true) c.carry_receive.ensures)
-
-pub returns-then-accepted-clause-meaning : goal.returns-then-accepted-clause-meaning
+pub returns-in_err-judge_receive : goal.returns-in_err-judge_receive
 unfolding answer
-returns-then-accepted-clause-meaning c = (judged_meant c.args.run.now (Receive c.args.p c.args.q) refl (returns-then-accepted-clause-exact c)).1
+returns-in_err-judge_receive c =
+    let t = refused_call c.args.run.now (Receive c.args.p c.args.q) refl c.from_residual.ensures.1 c.in_err-judge_receive.ensures in
+    record { exact = t.0; meaning = t.1 }
 
-pub returns-else-accepted-clause-exact : goal.returns-else-accepted-clause-exact
-unfolding applied done if_accepted answer
-returns-else-accepted-clause-exact c =
-    let judged = c.judge_receive-v.ensures in
-    (judged, rw (answered judged c.accepted.ensures c.if-accepted.false))
-
-pub returns-else-accepted-clause-meaning : goal.returns-else-accepted-clause-meaning
-unfolding answer
-returns-else-accepted-clause-meaning c = (judged_meant c.args.run.now (Receive c.args.p c.args.q) refl (returns-else-accepted-clause-exact c)).1
+pub returns : goal.returns
+unfolding answer done
+returns c =
+    let t = accepted_call c.args.run.now (Receive c.args.p c.args.q) refl c.in_ok-judge_receive.ensures (c.carry_receive.ensures) in
+    record { exact = t.0; meaning = t.1 }

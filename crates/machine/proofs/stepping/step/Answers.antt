@@ -1,27 +1,24 @@
--- `step` judges the step and carries it out where it is accepted, with the round and the set that it read before.
+-- `step` hands on a refusal, and carries out what is accepted, with the round and the set that it read before.
 -- Assumes nothing.
-use Rattle.rounds.specs.declared.Event.TheVariants.{Step}
+use Rattle.std.proofs.Common.{refl}
+use Rattle.rounds.specs.Verdicts.{accepted}
 use Rattle.rounds.specs.Events.{if_accepted}
 use Rattle.words.specs.Spelled.{site_of, control_of}
-use Rattle.words.specs.Calls.{done, applied, answer}
-use Rattle.words.proofs.Meaning.{answered_meant}
-use Rattle.machine.proofs.Told.{answered}
+use Rattle.words.specs.Calls.{done, applied, finishing, step_answer}
+use Rattle.words.proofs.Meaning.{stepped_meant}
+use Rattle.machine.proofs.Told.{handed_on}
 use Rattle.machine.proofs.stepping.step.Goals as goal
 
-pub returns-then-accepted-clause-exact : goal.returns-then-accepted-clause-exact
-unfolding answer applied done if_accepted control_of site_of
-returns-then-accepted-clause-exact c =
-    let ok = answered c.judge_step-v.ensures c.accepted.ensures c.if-accepted.true in
-    (rw (ok, c.line-round.ensures, c.line-heard.ensures), rw ok c.carry_step.ensures)
+pub returns-in_err-judge_step : goal.returns-in_err-judge_step
+unfolding applied if_accepted accepted step_answer finishing
+returns-in_err-judge_step c =
+    let judged = c.in_err-judge_step.ensures in
+    let t = stepped_meant c.args.run.now c.args.p (rw (← judged) (handed_on c.from_residual.ensures.1 refl, refl)) in
+    record { exact = t.0; meaning = t.1 }
 
-pub returns-then-accepted-clause-meaning : goal.returns-then-accepted-clause-meaning
-returns-then-accepted-clause-meaning c = (answered_meant c.args.run.now (Step c.args.p) (returns-then-accepted-clause-exact c)).1
-
-pub returns-clause-exact : goal.returns-clause-exact
-unfolding answer applied done if_accepted control_of site_of
-returns-clause-exact c =
-    let no = answered c.judge_step-v.ensures c.accepted.ensures c.if-accepted.false in
-    (rw (no, c.judge_step-v.ensures), rw no)
-
-pub returns-clause-meaning : goal.returns-clause-meaning
-returns-clause-meaning c = (answered_meant c.args.run.now (Step c.args.p) (returns-clause-exact c)).1
+pub returns : goal.returns
+unfolding applied done if_accepted accepted step_answer finishing control_of site_of
+returns c =
+    let judged = c.in_ok-judge_step.ensures in
+    let t = stepped_meant c.args.run.now c.args.p (rw (← judged, c.line.ensures, c.line-2.ensures) (refl, c.carry_step.ensures)) in
+    record { exact = t.0; meaning = t.1 }
