@@ -1,15 +1,14 @@
 -- What some bytes say, each as a test that computes: every record, and every pair of document 01's tests in its order.
 -- Assumes nothing.
-use Rattle.std.specs.Prelude.{ℕ, suc, ◌+◌, ◌*◌, Bool, ◌&&◌, List, [], ◌∷◌, ◌++◌, replicate}
+use Rattle.std.specs.Prelude.{ℕ, suc, ◌+◌, ◌*◌, Bool, ◌&&◌, List, [], ◌∷◌, ◌++◌, replicate, Some, None, Ok, Err}
 use Rattle.rounds.specs.declared.Event.{Event}
 use Rattle.rounds.specs.declared.Event.TheVariants as event
 use Rattle.rounds.specs.Limits.{most_processes}
 use Rattle.rounds.specs.Examples.{equal}
 use Rattle.records.specs.declared.Place.{Place}
 use Rattle.records.specs.declared.Place.TheVariants.{First, Later, Behind}
-use Rattle.records.specs.declared.Record.{Record}
-use Rattle.records.specs.declared.Record.TheVariants.{Opening, Happens, End, Wrong, Cut}
-use Rattle.records.specs.Records.{fault_number, tag_of, unknown, misplaced, size_of, made, plain, opening, judged, headed, parse, event_extent, extent}
+use Rattle.records.specs.declared.Record.TheVariants.{Opening, Happens, End}
+use Rattle.records.specs.Records.{Reading, fault_number, tag_of, misplaced, size_of, made, plain, opening, judged, headed, parse, event_extent, extent}
 use Rattle.records.specs.Script.{word, words, values_of, stopped, adds, on_record, script_behind, script}
 
 -- ---- a record as numbers: its tag and what it says; the number of a fault; nothing for bytes that are cut short
@@ -19,16 +18,16 @@ told (event.Receive p q) = 17 ∷ p ∷ q ∷ []
 told (event.Step p) = 18 ∷ p ∷ []
 told (event.Broadcast p) = 19 ∷ p ∷ []
 
-abbrev pub said : Record → List ℕ
-said (Opening n) = 1 ∷ n ∷ []
-said (Happens e) = told e
-said End = 127 ∷ []
-said (Wrong f) = fault_number f ∷ []
-said Cut = []
+abbrev pub said : Reading → List ℕ
+said (Err f) = fault_number f ∷ []
+said (Ok None) = []
+said (Ok (Some (Opening n))) = 1 ∷ n ∷ []
+said (Ok (Some (Happens e))) = told e
+said (Ok (Some End)) = 127 ∷ []
 
 -- to unfold `says` is to unfold the whole reading: its `unfolding` line names all of it
 unfoldable pub says : Place → List ℕ → List ℕ → Bool
-unfolding fault_number tag_of unknown misplaced size_of made plain opening judged headed parse event_extent extent word words values_of stopped adds on_record script_behind script
+unfolding fault_number tag_of misplaced size_of made plain opening judged headed parse event_extent extent word words values_of stopped adds on_record script_behind script
 says pl bytes answer = equal (said (parse pl bytes)) answer
 
 abbrev pub all_told : List Event → List ℕ

@@ -1,12 +1,11 @@
 -- What all the bytes say, whatever a machine makes of it: the events of the whole records one after the other, and where their reading comes to.
 -- Assumes nothing.
-use Rattle.std.specs.Prelude.{ℕ, zero, suc, ◌+◌, ◌-◌, ◌*◌, List, [], ◌∷◌, ◌++◌, get_or, take, drop}
+use Rattle.std.specs.Prelude.{ℕ, zero, suc, ◌+◌, ◌-◌, ◌*◌, List, [], ◌∷◌, ◌++◌, get_or, take, drop, Some, None, Ok, Err}
 use Rattle.rounds.specs.declared.Event.{Event}
 use Rattle.records.specs.declared.Place.{Place}
 use Rattle.records.specs.declared.Place.TheVariants.{Later, Behind}
-use Rattle.records.specs.declared.Record.{Record}
-use Rattle.records.specs.declared.Record.TheVariants.{Opening, Happens, End, Wrong, Cut}
-use Rattle.records.specs.Records.{parse, extent}
+use Rattle.records.specs.declared.Record.TheVariants.{Opening, Happens, End}
+use Rattle.records.specs.Records.{Reading, parse, extent}
 
 -- ---- the values of an opening of n processes that stands at the head of the bytes: four bytes each, big-endian, behind tag, length and N
 unfoldable pub word : List ℕ → ℕ → ℕ
@@ -34,13 +33,13 @@ stopped pl w = record { events = []; place = pl; left = w }
 unfoldable pub adds : Event → Script → Script
 adds e s = record { events = e ∷ s.events; place = s.place; left = s.left }
 
--- what a record at the head of w comes to; `next` reads on at a place, so many bytes further
-unfoldable pub on_record : Place → List ℕ → Record → (ℕ → Place → Script) → Script
-on_record pl w (Opening n) next = next (extent (Opening n)) Later
-on_record pl w (Happens e) next = adds e (next (extent (Happens e)) Later)
-on_record pl w End next = next (extent End) Behind
-on_record pl w (Wrong f) next = stopped pl w
-on_record pl w Cut next = stopped pl w
+-- what the reading of w's head comes to; `next` reads on at a place, so many bytes further
+unfoldable pub on_record : Place → List ℕ → Reading → (ℕ → Place → Script) → Script
+on_record pl w (Err f) next = stopped pl w
+on_record pl w (Ok None) next = stopped pl w
+on_record pl w (Ok (Some (Opening n))) next = next (extent (Opening n)) Later
+on_record pl w (Ok (Some (Happens e))) next = adds e (next (extent (Happens e)) Later)
+on_record pl w (Ok (Some End)) next = next (extent End) Behind
 
 -- behind the next k bytes
 unfoldable pub script_behind : ℕ → Place → List ℕ → Script
