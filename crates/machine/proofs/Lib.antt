@@ -3,4 +3,3 @@ pub mod Rooms
 pub mod Lead
 pub mod Told
 pub mod Heard
-pub mod Clearing

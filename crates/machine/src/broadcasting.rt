@@ -43,14 +43,13 @@ fn judge_broadcast(run: &[u32; RUN], p: u32) -> Verdict
 }
 
 // An accepted broadcast to the processes below n.
+#[tactic(auto, unfolding(words::specs::Calls::sent_below))]
 fn carry_sends(run: &mut [u32; RUN], p: u32, n: u32)
     requires { (p < most_processes) × (n ≤ most_processes) }
     ensures { run.new ≡ Calls.sent_below n run.old p }
 {
-    let mut q: u32 = 0;
-    while q < n {
-        carry_send(&mut *run, p, q);
-        q = q + 1;
+    for q in 0..n {
+        carry_send(run, p, q);
     }
 }
 

@@ -3,7 +3,6 @@ ghost use Rattle.std.specs.Prelude.{◌≡◌, ℕ, ◌<◌, ◌≤◌, length};
 ghost use Rattle.rounds.specs.Limits.{most_processes};
 ghost use Rattle.rounds.specs.Config.{opening, no_run};
 ghost use Rattle.rounds.specs.Verdicts.{Accepted, open_verdict};
-ghost use Rattle.words.specs.Layout as Layout;
 ghost use Rattle.words.specs.Calls as Calls;
 ghost use Rattle.words.specs.Exact.{Cleared, Begun};
 ghost use Rattle.words.specs.Shows.{Shows, Given};
@@ -26,25 +25,12 @@ fn judge_opening(n: u32, given: usize) -> Verdict
     Ok(())
 }
 
-// How many words a run has.
-fn extent(run: &[u32; RUN]) -> usize
-    ensures { (result ≡ Layout.RUN) × (length run.now ≡ Layout.RUN) }
-{
-    let all = &run[..];
-    all.len()
-}
-
 // No run is there: every word is 0.
 pub fn clear(run: &mut [u32; RUN])
     ensures exact { Cleared run.new }
     ensures meaning { Shows run.new no_run }
 {
-    let end = extent(&*run);
-    let mut i: usize = 0;
-    while i < end {
-        run[i] = 0;
-        i = i + 1;
-    }
+    run.fill(0);
 }
 
 // Process p is there, with its value.
@@ -59,14 +45,13 @@ fn place(run: &mut [u32; RUN], p: u32, value: u32)
 }
 
 // A process for each of the values.
+#[tactic(auto, unfolding(words::specs::Calls::placed_below))]
 fn place_all(run: &mut [u32; RUN], values: &[u32])
     requires { length values.now ≤ most_processes }
     ensures { run.new ≡ Calls.placed_below (length values.now) values.now run.old }
 {
-    let mut p: usize = 0;
-    while p < values.len() {
-        place(&mut *run, p as u32, values[p]);
-        p = p + 1;
+    for (p, &value) in values.iter().enumerate() {
+        place(run, p as u32, value);
     }
 }
 

@@ -7,7 +7,6 @@ ghost use Rattle.words.specs.Exact.{SizeRead, EventsRead, SiteRead};
 ghost use Rattle.words.specs.Shows.{Shows, standing};
 
 use crate::cells::*;
-use crate::settling::*;
 use crate::spelled::*;
 use rounds::Stage;
 use words::Standing;
@@ -28,26 +27,16 @@ pub fn events(run: &[u32; RUN]) -> u32
     head(run, EVENTS)
 }
 
-// The place of a stage among the counts.
-fn index(s: Stage) -> usize
-    ensures { (result ≡ Stages.index s) × (result < 4) }
-{
-    match s {
-        Stage::Sending => 0,
-        Stage::Collecting => 1,
-        Stage::Pending => 2,
-        Stage::Idle => 3,
-    }
-}
-
 // A count of p, with the events since it was last settled.
+#[tactic(auto, using(std::proofs::lemmas::Bool::Decides::nat_tests), unfolding(words::specs::Spelled::count_of, words::specs::Spelled::word, rounds::specs::Stages::one))]
 fn count(run: &[u32; RUN], p: u32, s: Stage) -> u32
     ensures { result ≡ word (count_of run.now p s) }
 {
     let k = index(s);
     let settled = line(run, p, COUNTS + k);
-    if stage(run, p) == k {
-        return std::num::wrapping_add_u32(settled, less(head(run, EVENTS), line(run, p, SINCE)));
+    if index(stage(run, p)) == k {
+        let waited = head(run, EVENTS).saturating_sub(line(run, p, SINCE));
+        return settled.wrapping_add(waited);
     }
     settled
 }

@@ -1,33 +1,28 @@
 // An accepted event is counted, and the processes that it can move to another stage are settled, before anything else changes.
-ghost use Rattle.std.specs.Prelude.{◌≡◌, ◌-◌};
+ghost use Rattle.std.specs.Prelude.{◌≡◌};
 ghost use Rattle.words.specs.Calls as Calls;
 
 use crate::cells::*;
 use crate::spelled::*;
 
-// a - b, and 0 where b is more.
-pub(crate) fn less(a: u32, b: u32) -> u32
-    ensures { result ≡ a - b }
-{
-    if b <= a { a - b } else { 0 }
-}
-
 // One more event is accepted.
+#[tactic(auto, unfolding(words::specs::Calls::counted, words::specs::Spelled::word))]
 fn count_event(run: &mut [u32; RUN])
     ensures { run.new ≡ Calls.counted run.old }
 {
-    let next = std::num::wrapping_add_u32(head(&*run, EVENTS), 1);
+    let next = head(&*run, EVENTS).wrapping_add(1);
     set_head(&mut *run, EVENTS, next);
 }
 
 // The events since p was last settled are counted at the stage that it is at.
+#[tactic(auto, unfolding(words::specs::Calls::settled, words::specs::Spelled::word))]
 pub(crate) fn settle(run: &mut [u32; RUN], p: u32)
     ensures { run.new ≡ Calls.settled run.old p }
 {
-    let k = COUNTS + stage(&*run, p);
+    let k = COUNTS + index(stage(&*run, p));
     let now = head(&*run, EVENTS);
-    let waited = less(now, line(&*run, p, SINCE));
-    let count = std::num::wrapping_add_u32(line(&*run, p, k), waited);
+    let waited = now.saturating_sub(line(&*run, p, SINCE));
+    let count = line(&*run, p, k).wrapping_add(waited);
     set_line(&mut *run, p, k, count);
     set_line(&mut *run, p, SINCE, now);
 }

@@ -8,6 +8,7 @@ ghost use Rattle.words.specs.Spelled.{flag_of, word_of, holding_of, message_of, 
 
 use crate::cells::*;
 use crate::limits::*;
+use rounds::Stage;
 use voting::{Holding, Message};
 
 // The number of processes; a memory that says more than the most has none.
@@ -74,19 +75,27 @@ pub(crate) fn everyone(n: u32) -> u32
     sets::full(n)
 }
 
-// The stage of p, in the order S, C, P, I.
-pub(crate) fn stage(run: &[u32; RUN], p: u32) -> usize
-    ensures { (result ≡ Stages.index (Stages.stage (control_of run.now) p)) × (result < 4) }
+// The place of a stage among the counts, in the order S, C, P, I.
+pub(crate) fn index(s: Stage) -> usize
+    ensures { (result ≡ Stages.index s) × (result < 4) }
+{
+    s as usize
+}
+
+// The stage that p is at.
+#[tactic(auto, using(std::proofs::lemmas::Bool::Decides::nat_tests), unfolding(words::specs::Spelled::control_of, words::specs::Spelled::site_of, rounds::specs::Stages::stage, rounds::specs::Stages::sent_to_all, rounds::specs::Stages::waited, rounds::specs::Stages::heard_from_all))]
+pub(crate) fn stage(run: &[u32; RUN], p: u32) -> Stage
+    ensures { result ≡ Stages.stage (control_of run.now) p }
 {
     let all = everyone(people(run));
     if line(run, p, SENT) != all {
-        return 0;
+        return Stage::Sending;
     }
     if transit(run, p, line(run, p, ROUND)) != 0 {
-        return 1;
+        return Stage::Collecting;
     }
     if line(run, p, HEARD) != all {
-        return 2;
+        return Stage::Pending;
     }
-    3
+    Stage::Idle
 }

@@ -41,6 +41,7 @@ fn hear(run: &[u32; RUN], p: u32, q: u32, g: Gathered) -> Gathered
 }
 
 // What p has heard from the processes below n: every place is tested.
+#[tactic(auto, using(crate::proofs::Heard::tally_none, crate::proofs::Heard::reach_none))]
 fn listen(run: &[u32; RUN], p: u32, n: u32) -> Gathered
     ensures { (result.tally ≡ Tallies.tally (messages_below n run.now p)) × (result.reach ≡ reach_below n run.now p) }
 {
@@ -48,10 +49,8 @@ fn listen(run: &[u32; RUN], p: u32, n: u32) -> Gathered
         tally: voting::silence(),
         reach: line(run, p, REACH),
     };
-    let mut q: u32 = 0;
-    while q < n {
+    for q in 0..n {
         g = hear(run, p, q, g);
-        q = q + 1;
     }
     g
 }
@@ -70,12 +69,12 @@ fn hold(run: &mut [u32; RUN], p: u32, h: Holding)
 }
 
 // p goes on from round r to the next.
+#[tactic(auto, unfolding(words::specs::Calls::advanced, words::specs::Spelled::word))]
 fn advance(run: &mut [u32; RUN], p: u32, r: u32, reach: u32)
     ensures { run.new ≡ Calls.advanced run.old p r reach }
 {
-    let next = std::num::wrapping_add_u32(r, 1);
     set_transit(&mut *run, p, r, 0);
-    set_line(&mut *run, p, ROUND, next);
+    set_line(&mut *run, p, ROUND, r.wrapping_add(1));
     set_line(&mut *run, p, SENT, 0);
     set_line(&mut *run, p, HEARD, 0);
     set_line(&mut *run, p, REACH, reach);

@@ -1,11 +1,8 @@
 -- `carry_sends` goes over the processes below n; at each the memory so far is its definition's.
 -- Assumes nothing.
-use Rattle.std.proofs.Common.{◌≡◌, ◌-◌, ◌≤◌}
+use Rattle.std.proofs.Common.{◌≡◌}
 use Rattle.words.specs.Calls.{sent_below}
 use Rattle.machine.proofs.broadcasting.carry_sends.Given as goal
 
 abbrev pub invariant-loop-q : goal.invariant-loop-q
-invariant-loop-q l = (l.q ≤ l.n) × (l.run ≡ sent_below l.q l.initial.run l.p)
-
-abbrev pub decreases-loop-q : goal.decreases-loop-q
-decreases-loop-q l = l.n - l.q
+invariant-loop-q l = l.run ≡ sent_below l.q l.initial.run l.p
