@@ -7,7 +7,7 @@ ghost use Rattle.records.specs.Records as Records;
 use rounds::Event;
 
 // How far a trace has come.
-#[derive(Clone, Copy, PartialEq, Eq)]
+#[derive(Clone, Copy, Debug, PartialEq, Eq)]
 pub enum Place {
     // The first record stands here: it must be an opening.
     First,
@@ -18,7 +18,7 @@ pub enum Place {
 }
 
 // What is wrong with the bytes of a trace. Its number is that of document 01.
-#[derive(Clone, Copy, PartialEq, Eq)]
+#[derive(Clone, Copy, Debug, PartialEq, Eq)]
 pub enum Fault {
     // 9: the trace ends inside a record or without an end record.
     EndsInside,
@@ -33,7 +33,7 @@ pub enum Fault {
 }
 
 // What a whole record says.
-#[derive(Clone, Copy)]
+#[derive(Clone, Copy, Debug, PartialEq, Eq)]
 pub enum Record {
     // An opening of this many processes; its values stand in the bytes.
     Opening(u8),
@@ -42,7 +42,7 @@ pub enum Record {
 }
 
 // What a record's first byte says.
-#[derive(Clone, Copy, PartialEq, Eq)]
+#[derive(Clone, Copy, Debug, PartialEq, Eq)]
 enum Tag {
     Opening,
     Send,

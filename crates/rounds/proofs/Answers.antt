@@ -16,7 +16,7 @@ use Rattle.rounds.specs.declared.Refusal.TheVariants.{BadSize, NoProcess, Alread
 use Rattle.rounds.specs.Limits.{most_processes, most_events}
 use Rattle.rounds.specs.Config.{Control}
 use Rattle.rounds.specs.Stages.{sent_to_all}
-use Rattle.rounds.specs.Verdicts.{accepted, refuse, open_verdict, outside, crowded, ahead, send_verdict, receive_verdict, step_verdict, first_refusal, verdict}
+use Rattle.rounds.specs.Verdicts.{refusal_number, number_of, accepted, refuse, open_verdict, outside, crowded, ahead, send_verdict, receive_verdict, step_verdict, first_refusal, verdict}
 use Rattle.rounds.specs.Allowed.{Opens, MaySend, Allowed}
 
 -- ---- verdicts
@@ -24,6 +24,25 @@ pub is_accepted : (v : Verdict) → accepted v ≡ true → v ≡ Accepted
 unfolding accepted
 is_accepted (Ok u) e = refl
 is_accepted (Err r) e = absurd (false≢true e)
+
+-- no refusal has the number 0
+pub refusal_some : (r : Refusal) → refusal_number r ≡ 0 → ⊥
+unfolding refusal_number
+refusal_some BadSize e = omega arith
+refusal_some NoProcess e = omega arith
+refusal_some AlreadySent e = omega arith
+refusal_some TooFarAhead e = omega arith
+refusal_some NothingInTransit e = omega arith
+refusal_some NotSentToAll e = omega arith
+refusal_some LastRound e = omega arith
+refusal_some TooManyEvents e = omega arith
+refusal_some WrongCount e = omega arith
+
+-- so the number tells what is accepted
+pub number_accepted : (v : Verdict) → number_of v ≡ 0 → v ≡ Accepted
+unfolding number_of
+number_accepted (Ok u) e = refl
+number_accepted (Err r) e = absurd (refusal_some r e)
 
 pub accepted_is : (v : Verdict) → v ≡ Accepted → accepted v ≡ true
 unfolding accepted

@@ -9,22 +9,23 @@ use lib.Dec.{ltb, eqb}
 use lib.ListN.{length, get_or, take, drop, length-drop}
 use lib.Seq.{drop-drop, get_or-drop, get_or-take}
 use Rattle.rounds.specs.declared.Event.TheVariants.{Send, Receive}
-use Rattle.rounds.specs.declared.Verdict.{Verdict}
+use Rattle.rounds.specs.Verdicts.{Verdict}
 use Rattle.rounds.specs.Verdicts.{accepted, number_of, verdict}
 use Rattle.rounds.specs.Events.{if_accepted}
 use Rattle.words.specs.Layout.{Mem}
 use Rattle.words.specs.Spelled.{control_of}
-use Rattle.words.specs.Calls.{applied, answer}
+use Rattle.words.specs.Calls.{applied, judged as judged_answer, answer}
+use Rattle.std.specs.Prelude.{Option, Some, None, Ok, Err}
+use Rattle.rounds.specs.declared.Event.{Event}
+use Rattle.rounds.proofs.Answers.{is_accepted}
+use Rattle.trace.specs.Turns.{Goes, passes}
 use Rattle.words.specs.Shows.{verdict_of}
 use Rattle.words.proofs.Meaning.{refused_unchanged}
 use Rattle.records.specs.declared.Place.{Place}
 use Rattle.records.specs.declared.Place.TheVariants.{First, Later, Behind}
-use Rattle.records.specs.declared.Record.{Record}
-use Rattle.records.specs.declared.Record.TheVariants.{Opening, Happens, End, Wrong, Cut}
-use Rattle.records.specs.Records.{tag_of, unknown, misplaced, size_of, made, plain, judged, headed, parse, extent, event_extent}
+use Rattle.records.specs.declared.Record.TheVariants.{Opening, Happens, End}
+use Rattle.records.specs.Records.{Reading, extent_of, tag_of, misplaced, size_of, made, plain, judged, headed, parse, extent, event_extent}
 use Rattle.records.proofs.Rest.{rest}
-use Rattle.trace.specs.declared.Told.TheVariants.{Nothing}
-use Rattle.trace.specs.declared.Turn.TheVariants.{Goes}
 use Rattle.trace.specs.Turns.{on_answer, tells, turn_on, words_on, turn, turned}
 use Rattle.trace.specs.Haste.{hasty_extent, head_is, hasty, goes, left, Haste, stays, further, haste_behind, haste}
 use Rattle.trace.proofs.Turning.{ahead, goes_ahead}
@@ -54,30 +55,30 @@ module _ (w : List ℕ) (long : hasty_extent ≤ length w) where
   enough : ltb (length (drop 3 w)) 2 ≡ false
   enough = le-ltb (length (drop 3 w)) 2 (let l = length-drop 3 w in omega arith)
 
-  sends : Headed 16 w → parse Later w ≡ Happens (Send (get_or w 3 0) (get_or w 4 0))
-  unfolding parse headed judged plain tag_of unknown misplaced size_of made
+  sends : Headed 16 w → parse Later w ≡ Ok (Some (Happens (Send (get_or w 3 0) (get_or w 4 0))))
+  unfolding parse headed judged plain tag_of misplaced size_of made
   sends h =
       rw (le-ltb (length w) 3 (omega arith), h.first, h.second, h.third, enough, behind 0 (omega arith), behind 1 (omega arith))
 
-  receives : Headed 17 w → parse Later w ≡ Happens (Receive (get_or w 3 0) (get_or w 4 0))
-  unfolding parse headed judged plain tag_of unknown misplaced size_of made
+  receives : Headed 17 w → parse Later w ≡ Ok (Some (Happens (Receive (get_or w 3 0) (get_or w 4 0))))
+  unfolding parse headed judged plain tag_of misplaced size_of made
   receives h =
       rw (le-ltb (length w) 3 (omega arith), h.first, h.second, h.third, enough, behind 0 (omega arith), behind 1 (omega arith))
 
 -- ---- so where it is accepted, the turn goes over its bytes and tells nothing
-record Hasty (m : Mem) (w : List ℕ) (r : Record) : Type 0 where
-  turns : turn Later (control_of m) w ≡ Goes hasty_extent Later Nothing
+record Hasty (m : Mem) (w : List ℕ) (r : Option Event) : Type 0 where
+  turns : turn Later (control_of m) w ≡ Goes hasty_extent Later None
   words : turned Later m w ≡ left m r
 
 module _ (m : Mem) (w : List ℕ) where
-  sent : (p q : ℕ) → parse Later w ≡ Happens (Send p q) → accepted (verdict (control_of m) (Send p q)) ≡ true → Hasty m w (Happens (Send p q))
-  unfolding turn turned turn_on words_on on_answer answer verdict_of tells extent event_extent if_accepted left
-  sent p q e a = record { turns = rw (e, a); words = rw e }
+  sent : (p q : ℕ) → parse Later w ≡ Ok (Some (Happens (Send p q))) → accepted (verdict (control_of m) (Send p q)) ≡ true → Hasty m w (Some (Send p q))
+  unfolding turn turned turn_on words_on on_answer answer judged_answer verdict_of tells extent event_extent passes left
+  sent p q e a = record { turns = rw (e, is_accepted _ a); words = rw e }
 
-  received : (p q : ℕ) → parse Later w ≡ Happens (Receive p q) → accepted (verdict (control_of m) (Receive p q)) ≡ true
-      → Hasty m w (Happens (Receive p q))
-  unfolding turn turned turn_on words_on on_answer answer verdict_of tells extent event_extent if_accepted left
-  received p q e a = record { turns = rw (e, a); words = rw e }
+  received : (p q : ℕ) → parse Later w ≡ Ok (Some (Happens (Receive p q))) → accepted (verdict (control_of m) (Receive p q)) ≡ true
+      → Hasty m w (Some (Receive p q))
+  unfolding turn turned turn_on words_on on_answer answer judged_answer verdict_of tells extent event_extent passes left
+  received p q e a = record { turns = rw (e, is_accepted _ a); words = rw e }
 
   in_haste : goes (control_of m) (hasty w) ≡ true → Hasty m w (hasty w)
   unfolding hasty goes
@@ -90,21 +91,18 @@ module _ (m : Mem) (w : List ℕ) where
       q = get_or w 4 0
 
       go : (a : Bool) → ltb (length w) hasty_extent ≡ a → (b : Bool) → head_is 16 w ≡ b → (d : Bool) → head_is 17 w ≡ d
-          → goes (control_of m) (cond a Cut (cond b (Happens (Send p q)) (cond d (Happens (Receive p q)) Cut))) ≡ true
-          → Hasty m w (cond a Cut (cond b (Happens (Send p q)) (cond d (Happens (Receive p q)) Cut)))
+          → goes (control_of m) (cond a None (cond b (Some (Send p q)) (cond d (Some (Receive p q)) None))) ≡ true
+          → Hasty m w (cond a None (cond b (Some (Send p q)) (cond d (Some (Receive p q)) None)))
       go true ea b eb d ed h = absurd (true≢false (sym h))
       go false ea true eb d ed h = sent p q (sends w (ltb-false _ _ ea) (headed_by 16 w eb)) h
       go false ea false eb true ed h = received p q (receives w (ltb-false _ _ ea) (headed_by 17 w ed)) h
       go false ea false eb false ed h = absurd (true≢false (sym h))
 
   -- and where not, nothing has changed
-  unmoved : (r : Record) → goes (control_of m) r ≡ false → left m r ≡ m
+  unmoved : (r : Option Event) → goes (control_of m) r ≡ false → left m r ≡ m
   unfolding goes left
-  unmoved (Opening n) h = refl
-  unmoved (Happens e) h = refused_unchanged m e h
-  unmoved End h = refl
-  unmoved (Wrong f) h = refl
-  unmoved Cut h = refl
+  unmoved (Some e) h = refused_unchanged m e h
+  unmoved None h = refl
 
   -- it stands within the bytes
   whole : goes (control_of m) (hasty w) ≡ true → hasty_extent ≤ length w
@@ -113,7 +111,7 @@ module _ (m : Mem) (w : List ℕ) where
     where
       go : (a : Bool) → ltb (length w) hasty_extent ≡ a
           → goes (control_of m)
-          (cond a Cut (cond (head_is 16 w) (Happens (Send (get_or w 3 0) (get_or w 4 0))) (cond (head_is 17 w) (Happens (Receive (get_or w 3 0) (get_or w 4 0))) Cut)))
+          (cond a None (cond (head_is 16 w) (Some (Send (get_or w 3 0) (get_or w 4 0))) (cond (head_is 17 w) (Some (Receive (get_or w 3 0) (get_or w 4 0))) None)))
           ≡ true
           → hasty_extent ≤ length w
       go true e h = absurd (true≢false (sym h))
@@ -142,7 +140,7 @@ stays_haste m w e = haste_is m w ∙ rw e
 
 -- ---- what such turns keep is kept
 module _ (P : ℕ → Mem → List ℕ → Type 0)
-    (kept : (u : ℕ) (m : Mem) (w : List ℕ) → turn Later (control_of m) w ≡ Goes hasty_extent Later Nothing → hasty_extent ≤ length w → P u m w
+    (kept : (u : ℕ) (m : Mem) (w : List ℕ) → turn Later (control_of m) w ≡ Goes hasty_extent Later None → hasty_extent ≤ length w → P u m w
     → P (u + hasty_extent) (turned Later m w) (drop hasty_extent w)) where
   Kept : ℕ → List ℕ → Haste → Type 0
   Kept u w x = P (u + x.used) x.words (drop x.used w)
@@ -192,75 +190,10 @@ haste_ahead Later m w =
     haste_kept (λ u x v. ahead Later m w ≡ ahead Later x v) (λ u x v e l h. h ∙ goes_ahead Later x v e) 0 m w refl
 haste_ahead Behind m w = refl
 
--- ---- as the code finds it: tag and length as one number
-head_is_lem : (w : List ℕ) (tag r : ℕ) → get_or w 0 0 < 256 → get_or w 1 0 < 256 → get_or w 2 0 < 256
-    → r ≡ get_or w 0 0 * 65536 + get_or w 1 0 * 256 + get_or w 2 0 → head_is tag w ≡ eqb r (tag * 65536 + 2)
-unfolding head_is
-head_is_lem w tag r a b c e = go (eqb (get_or w 0 0) tag) refl (eqb (get_or w 1 0) 0) refl (eqb (get_or w 2 0) 2) refl
-  where
-    go : (x : Bool) → eqb (get_or w 0 0) tag ≡ x → (y : Bool) → eqb (get_or w 1 0) 0 ≡ y → (z : Bool) → eqb (get_or w 2 0) 2 ≡ z
-        → x && (y && z) ≡ eqb r (tag * 65536 + 2)
-    go true p true q true s =
-        let one = eqb-true (get_or w 0 0) tag p in
-        let two = eqb-true (get_or w 1 0) 0 q in
-        let three = eqb-true (get_or w 2 0) 2 s in
-        sym (eq-eqb r (tag * 65536 + 2) (omega arith))
-    go false p y q z s = sym (ne_eqb r (tag * 65536 + 2) (λ (f : r ≡ tag * 65536 + 2). eqb-false (get_or w 0 0) tag p (omega arith)))
-    go true p false q z s = sym (ne_eqb r (tag * 65536 + 2) (λ (f : r ≡ tag * 65536 + 2). eqb-false (get_or w 1 0) 0 q (omega arith)))
-    go true p true q false s = sym (ne_eqb r (tag * 65536 + 2) (λ (f : r ≡ tag * 65536 + 2). eqb-false (get_or w 2 0) 2 s (omega arith)))
-
--- what comes of each test
+-- ---- as the code finds it: by the first bytes
 module _ (m : Mem) (w : List ℕ) where
   abbrev Found : Bool → Mem → Type 0
   Found b n = (b ≡ goes (control_of m) (hasty w)) × (n ≡ left m (hasty w))
-
-  pub too_few : length w < hasty_extent → Found false m
-  unfolding hasty goes left
-  too_few l = (rw (lt-ltb (length w) hasty_extent l), rw (lt-ltb (length w) hasty_extent l))
-
--- tag and length of a send and of a receive as one number
-abbrev send_head : ℕ
-send_head = 1048578
-
-abbrev receive_head : ℕ
-receive_head = 1114114
-
--- the head of the bytes, as the one number that the code reads
-pub record Numbered (w : List ℕ) (r : ℕ) : Type 0 where
-  pub long : hasty_extent ≤ length w
-  pub bytes : (i : ℕ) → get_or w i 0 < 256
-  pub number : r ≡ get_or w 0 0 * 65536 + get_or w 1 0 * 256 + get_or w 2 0
-
-module _ (m : Mem) {w : List ℕ} {r : ℕ} (h : Numbered w r) where
-  whole_is : ltb (length w) hasty_extent ≡ false
-  whole_is = le-ltb (length w) hasty_extent h.long
-
-  is_send : head_is 16 w ≡ eqb r send_head
-  is_send = head_is_lem w 16 r (h.bytes 0) (h.bytes 1) (h.bytes 2) h.number
-
-  is_receive : head_is 17 w ≡ eqb r receive_head
-  is_receive = head_is_lem w 17 r (h.bytes 0) (h.bytes 1) (h.bytes 2) h.number
-
-  pub found_send : {v : Verdict} {n : Mem} {k : ℕ} → r ≡ send_head → (v ≡ verdict (control_of m) (Send (get_or w 3 0) (get_or w 4 0)))
-      × (n ≡ applied m (Send (get_or w 3 0) (get_or w 4 0))) → k ≡ number_of v → Found m w (eqb k 0) n
-  unfolding hasty goes left accepted
-  found_send e s q = (rw (whole_is, is_send, eq-eqb r send_head e, q, s.0), rw (whole_is, is_send, eq-eqb r send_head e) s.1)
-
-  pub found_receive : {v : Verdict} {n : Mem} {k : ℕ} → (r ≡ send_head → ⊥) → r ≡ receive_head
-      → (v ≡ verdict (control_of m) (Receive (get_or w 3 0) (get_or w 4 0))) × (n ≡ applied m (Receive (get_or w 3 0) (get_or w 4 0))) → k ≡ number_of v
-      → Found m w (eqb k 0) n
-  unfolding hasty goes left accepted
-  found_receive f e s q = (
-    rw (whole_is, is_send, ne_eqb r send_head f, is_receive, eq-eqb r receive_head e, q, s.0),
-    rw (whole_is, is_send, ne_eqb r send_head f, is_receive, eq-eqb r receive_head e) s.1,
-  )
-
-  pub found_none : (r ≡ send_head → ⊥) → (r ≡ receive_head → ⊥) → Found m w false m
-  unfolding hasty goes left
-  found_none f g = (
-    rw (whole_is, is_send, ne_eqb r send_head f, is_receive, ne_eqb r receive_head g),
-    rw (whole_is, is_send, ne_eqb r send_head f, is_receive, ne_eqb r receive_head g),
-  )
 
 -- ---- the loop over them: at a place, all that is taken is what was taken so far and what is taken from there on
 pub record Hastened (m₀ : Mem) (w : List ℕ) (m : Mem) (at : ℕ) : Type 0 where

@@ -7,7 +7,7 @@ use mathlib.Core.Bool.{Bool, true, false, cond}
 use mathlib.Core.List.{List}
 use lib.ListN.{length, take, drop, length-drop}
 use lib.Seq.{drop-drop}
-use Rattle.rounds.specs.declared.Verdict.{Verdict}
+use Rattle.rounds.specs.Verdicts.{Verdict}
 use Rattle.rounds.specs.Config.{Control}
 use Rattle.rounds.specs.Verdicts.{accepted}
 use Rattle.rounds.specs.Events.{if_accepted}
@@ -16,15 +16,16 @@ use Rattle.words.specs.Spelled.{control_of}
 use Rattle.words.specs.Calls.{blank}
 use Rattle.records.specs.declared.Place.{Place}
 use Rattle.records.specs.declared.Place.TheVariants.{First}
-use Rattle.records.specs.declared.Record.{Record}
-use Rattle.records.specs.declared.Record.TheVariants.{Opening, Happens, End, Wrong, Cut}
-use Rattle.records.specs.Records.{parse, extent}
+use Rattle.records.specs.declared.Record.TheVariants.{Opening, Happens, End}
+use Rattle.records.specs.Records.{Reading, extent_of, parse, extent}
 use Rattle.records.proofs.Rest.{rest}
 use Rattle.records.proofs.Whole.{extent_within, event_some}
-use Rattle.trace.specs.declared.Ending.{Ending}
-use Rattle.trace.specs.declared.Told.{Told}
-use Rattle.trace.specs.declared.Turn.{Turn}
-use Rattle.trace.specs.declared.Turn.TheVariants.{More, Goes, Ends}
+use Rattle.std.specs.Prelude.{Option, Some, None, Result, Ok, Err}
+use Rattle.rounds.specs.declared.Refusal.{Refusal}
+use Rattle.trace.specs.Outcome.{Ending}
+use Rattle.trace.specs.declared.Heard.{Heard}
+use Rattle.trace.specs.declared.Gone.{Gone}
+use Rattle.trace.specs.Turns.{Turn, More, Goes, Ends, passes}
 use Rattle.trace.specs.Outcome.{at_end, outcome}
 use Rattle.trace.specs.Turns.{on_answer, on_opening, turn_on, turn, turned, trace_words}
 use Rattle.trace.specs.Haste.{haste}
@@ -33,28 +34,24 @@ use Rattle.trace.proofs.Turning.{ahead, more_ahead, goes_ahead, ends_ahead, ahea
 
 -- ---- an accepted record goes over a byte at least, and no further than the bytes
 Within : List ℕ → Turn → Type 0
-Within w More = Unit {0}
-Within w (Goes k next t) = (0 < k) × (k ≤ length w)
-Within w (Ends x) = Unit {0}
+Within w (Ok None) = Unit {0}
+Within w (Ok (Some g)) = (0 < g.used) × (g.used ≤ length w)
+Within w (Err x) = Unit {0}
 
-if_within : (w : List ℕ) (v : Verdict) (k : ℕ) (next : Place) (t : Told) (x : Ending) → 0 < k → k ≤ length w
-    → Within w (if_accepted v (Goes k next t) (Ends x))
-unfolding if_accepted Within
-if_within w v k next t x some l = go (accepted v)
-  where
-    go : (b : Bool) → Within w (cond b (Goes k next t) (Ends x))
-    go true = (some, l)
-    go false = tt
+passes_within : (w : List ℕ) (v : Verdict) (k : ℕ) (t : Option Heard) → 0 < k → k ≤ length w → Within w (passes v k t)
+unfolding passes Within
+passes_within w (Ok u) k t some l = (some, l)
+passes_within w (Err r) k t some l = tt
 
-record_within : (c : Control) (w : List ℕ) (r : Record) → extent r ≤ length w → Within w (turn_on c w r)
-unfolding turn_on on_opening on_answer extent Within
-record_within c w (Opening n) l = if_within w _ _ _ _ _ (omega arith) l
-record_within c w (Happens e) l = if_within w _ _ _ _ _ (event_some e) l
-record_within c w End l = (omega arith, l)
-record_within c w (Wrong f) l = tt
-record_within c w Cut l = tt
+record_within : (c : Control) (w : List ℕ) (r : Reading) → extent_of r ≤ length w → Within w (turn_on c w r)
+unfolding turn_on on_opening on_answer extent extent_of Within
+record_within c w (Ok (Some (Opening n))) l = passes_within w _ _ _ (omega arith) l
+record_within c w (Ok (Some (Happens e))) l = passes_within w _ _ _ (event_some e) l
+record_within c w (Ok (Some End)) l = (omega arith, l)
+record_within c w (Err f) l = tt
+record_within c w (Ok None) l = tt
 
-pub goes_within : {k : ℕ} {next : Place} {t : Told} (pl : Place) (c : Control) (w : List ℕ) → turn pl c w ≡ Goes k next t → (0 < k) × (k ≤ length w)
+pub goes_within : {k : ℕ} {next : Place} {t : Option Heard} (pl : Place) (c : Control) (w : List ℕ) → turn pl c w ≡ Goes k next t → (0 < k) × (k ≤ length w)
 unfolding turn Within
 goes_within pl c w e = subst (Within w) e (record_within c w (parse pl w) (extent_within pl w))
 
@@ -88,12 +85,12 @@ pub taken : {w : List ℕ} {pl : Place} {m m' : Mem} {at : ℕ} {x : Turn} → C
 taken h e = record { so = h; answer = rw rest at e.0; words = rw rest at e.1 }
 
 module _ {w : List ℕ} {pl : Place} {m m' : Mem} {at : ℕ} {x : Turn} (c : Taken w pl m m' at x) where
-  pub goes_far : {k : ℕ} {next : Place} {t : Told} → x ≡ Goes k next t → (0 < k) × (at + k ≤ length w)
+  pub goes_far : {k : ℕ} {next : Place} {t : Option Heard} → x ≡ Goes k next t → (0 < k) × (at + k ≤ length w)
   goes_far e =
       let far = goes_within pl (control_of m) (drop at w) (sym c.answer ∙ e) in
       (far.0, omega (arith, far.1, length-drop at w, c.so.within))
 
-  pub goes_on : {k : ℕ} {next : Place} {t : Told} → x ≡ Goes k next t → ComeTo w next m' (at + k)
+  pub goes_on : {k : ℕ} {next : Place} {t : Option Heard} → x ≡ Goes k next t → ComeTo w next m' (at + k)
   goes_on {k} e =
       record {
         within = (goes_far e).1;
@@ -103,5 +100,5 @@ module _ {w : List ℕ} {pl : Place} {m m' : Mem} {at : ℕ} {x : Turn} (c : Tak
   pub more_last : x ≡ More → (at_end pl ≡ (outcome w).ending) × (m' ≡ trace_words w)
   more_last e = ahead_ends w (rw c.words (sym c.so.ahead_of ∙ more_ahead pl m (drop at w) (sym c.answer ∙ e)))
 
-  pub ends_last : {y : Ending} → x ≡ Ends y → (y ≡ (outcome w).ending) × (m' ≡ trace_words w)
+  pub ends_last : {y : Stop} → x ≡ Ends y → (Err y ≡ (outcome w).ending) × (m' ≡ trace_words w)
   ends_last e = ahead_ends w (rw c.words (sym c.so.ahead_of ∙ ends_ahead pl m (drop at w) (sym c.answer ∙ e)))

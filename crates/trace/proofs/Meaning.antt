@@ -7,13 +7,13 @@ use mathlib.Core.Bool.{Bool, true, false, cond}
 use mathlib.Core.List.{List}
 use borrow.Author.Tests.{eq-eqb}
 use lib.ListN.{length}
-use Rattle.rounds.specs.declared.Verdict.{Verdict}
-use Rattle.rounds.specs.declared.Verdict.TheVariants.{Accepted}
+use Rattle.rounds.specs.Verdicts.{Verdict}
+use Rattle.rounds.specs.Verdicts.{Accepted}
 use Rattle.rounds.specs.Config.{Config, opening}
 use Rattle.rounds.specs.Verdicts.{accepted, open_verdict}
 use Rattle.rounds.specs.Events.{if_accepted}
 use Rattle.rounds.specs.Runs.{value_at, night_verdict, night, night_reports}
-use Rattle.rounds.proofs.Answers.{is_accepted}
+use Rattle.rounds.proofs.Answers.{refusal_some}
 use Rattle.words.specs.Layout.{Mem}
 use Rattle.words.specs.Spelled.{control_of}
 use Rattle.words.specs.Calls.{blank, opened, begins, night_words}
@@ -25,15 +25,18 @@ use Rattle.records.specs.declared.Place.{Place}
 use Rattle.records.specs.declared.Place.TheVariants.{First}
 use Rattle.records.specs.declared.Fault.{Fault}
 use Rattle.records.specs.declared.Fault.TheVariants.{EndsInside, UnknownTag, WrongLength, WrongPlace, BytesBehind}
-use Rattle.records.specs.declared.Record.{Record}
-use Rattle.records.specs.declared.Record.TheVariants.{Opening, Happens, End, Wrong, Cut}
-use Rattle.records.specs.Records.{fault_number, parse}
+use Rattle.records.specs.declared.Record.TheVariants.{Opening, Happens, End}
+use Rattle.records.specs.Records.{Reading, extent_of, fault_number, parse}
 use Rattle.records.specs.Script.{Script, values_of, stopped, script}
 use Rattle.records.proofs.Whole.{Placed, placed}
 use Rattle.records.proofs.Scripts.{script_wrong, script_cut}
-use Rattle.trace.specs.declared.Ending.{Ending}
-use Rattle.trace.specs.declared.Ending.TheVariants.{Judged}
-use Rattle.trace.specs.declared.Turn.{Turn}
+use Rattle.std.specs.Prelude.{Option, Some, None, Result, Ok, Err}
+use Rattle.rounds.specs.declared.Refusal.{Refusal}
+use Rattle.trace.specs.Outcome.{Ending}
+use Rattle.trace.specs.declared.Stop.{Stop}
+use Rattle.trace.specs.declared.Stop.TheVariants.{Refused, Faulty}
+use Rattle.trace.specs.declared.Gone.{Gone}
+use Rattle.trace.specs.Turns.{Turn, More, Goes, Ends, passes}
 use Rattle.trace.specs.Outcome.{ending_number, at_end, closing, closes, ended_by, nobody, outcome_of, outcome}
 use Rattle.trace.specs.Claims.{Revalued}
 use Rattle.trace.specs.Exact.{RecordDone, TraceDone}
@@ -42,13 +45,13 @@ use Rattle.trace.proofs.Values.{Blind, values_alone}
 use Rattle.trace.specs.Turns.{turn_on, turn, run_on, next, words_on, turned, left_by, trace_words}
 
 -- ---- the words that a trace leaves show the run that it reaches
-left_shows : (w : List ℕ) (s : Script) (r : Record) → Shows (left_by w s r) (outcome_of w s r).config
+left_shows : (w : List ℕ) (s : Script) (r : Reading) → Shows (left_by w s r) (outcome_of w s r).config
 unfolding left_by outcome_of nobody
-left_shows w s (Opening n) = night_shows n (values_of n w) s.events
-left_shows w s (Happens e) = blank_shows
-left_shows w s End = blank_shows
-left_shows w s (Wrong f) = blank_shows
-left_shows w s Cut = blank_shows
+left_shows w s (Ok (Some (Opening n))) = night_shows n (values_of n w) s.events
+left_shows w s (Ok (Some (Happens e))) = blank_shows
+left_shows w s (Ok (Some End)) = blank_shows
+left_shows w s (Err f) = blank_shows
+left_shows w s (Ok None) = blank_shows
 
 pub trace_shows : (w : List ℕ) → Shows (trace_words w) (outcome w).config
 unfolding trace_words outcome
@@ -68,13 +71,13 @@ module _ (m : Mem) (c : Config) (w : List ℕ) (k : Shows m c) where
       go true a = opens_shows n (values_of n w) a
       go false a = k
 
-  record_means : (r : Record) → (turn_on (control_of m) w r ≡ turn_on c.control w r) × Shows (words_on m w r) (run_on c w r)
+  record_means : (r : Reading) → (turn_on (control_of m) w r ≡ turn_on c.control w r) × Shows (words_on m w r) (run_on c w r)
   unfolding turn_on words_on run_on
-  record_means (Opening n) = (refl, opened_shows n)
-  record_means (Happens e) = (rw (answer_shown m c.control c.content k.few k.shown e), shows_next m c e k)
-  record_means End = (refl, k)
-  record_means (Wrong f) = (refl, k)
-  record_means Cut = (refl, k)
+  record_means (Ok (Some (Opening n))) = (refl, opened_shows n)
+  record_means (Ok (Some (Happens e))) = (rw (answer_shown m c.control c.content k.few k.shown e), shows_next m c e k)
+  record_means (Ok (Some End)) = (refl, k)
+  record_means (Err f) = (refl, k)
+  record_means (Ok None) = (refl, k)
 
 pub one_record_meant : (pl : Place) (m : Mem) (w : List ℕ) {t : Turn} {b : Mem} → RecordDone pl m w t b
     → RecordDone pl m w t b × ((c : Config) → Shows m c → (t ≡ turn pl c.control w) × Shows b (next pl c w))
@@ -93,7 +96,7 @@ opening_values_alone = values_alone
 -- ---- a trace that gives 0 is the night of its opening and its events: the same words, the same run, the same heard-of sets
 pub record IsNight (w : List ℕ) : Type 0 where
   pub size : ℕ
-  pub opening : parse First w ≡ Opening size
+  pub opening : parse First w ≡ Ok (Some (Opening size))
   pub accepted : night_verdict size (values_of size w) (script First w).events ≡ Accepted
   pub words : trace_words w ≡ night_words size (values_of size w) (script First w).events
   pub run : (outcome w).config ≡ night size (values_of size w) (script First w).events
@@ -110,19 +113,16 @@ fault_some BytesBehind e = omega arith
 
 -- what ends in 0 behind a night is an accepted one
 accepted_night : (v : Verdict) (x : Ending) → ending_number (ended_by v x) ≡ 0 → v ≡ Accepted
-unfolding ended_by if_accepted ending_number accepted
-accepted_night v x = go (accepted v) refl
-  where
-    go : (b : Bool) → accepted v ≡ b → ending_number (cond b x (Judged v)) ≡ 0 → v ≡ Accepted
-    go true a e = is_accepted v a
-    go false a e = is_accepted v (eq-eqb _ _ e)
+unfolding ended_by ending_number
+accepted_night (Ok u) x e = refl
+accepted_night (Err r) x e = absurd (refusal_some r e)
 
 pub read_whole : (w : List ℕ) → ending_number (outcome w).ending ≡ 0 → IsNight w
 unfolding Placed outcome outcome_of nobody trace_words left_by closes stopped closing at_end ending_number fault_number
 read_whole w z = go (parse First w) refl (placed First w)
   where
-    go : (r : Record) → parse First w ≡ r → Placed First r → IsNight w
-    go (Opening n) e h =
+    go : (r : Reading) → parse First w ≡ r → Placed First r → IsNight w
+    go (Ok (Some (Opening n))) e h =
         let zero = rw e at z in
         record {
           size = n;
@@ -132,7 +132,7 @@ read_whole w z = go (parse First w) refl (placed First w)
           run = rw e;
           reports = rw e;
         }
-    go (Happens v) e h = absurd h
-    go End e h = absurd h
-    go (Wrong f) e h = absurd (fault_some f (rw (e, script_wrong First w f e, e) at z))
-    go Cut e h = absurd (fault_some EndsInside (rw (e, script_cut First w e, e) at z))
+    go (Ok (Some (Happens v))) e h = absurd h
+    go (Ok (Some End)) e h = absurd h
+    go (Err f) e h = absurd (fault_some f (rw (e, script_wrong First w f e, e) at z))
+    go (Ok None) e h = absurd (fault_some EndsInside (rw (e, script_cut First w e, e) at z))

@@ -6,21 +6,22 @@ use mathlib.Core.Path.{◌≡◌, refl}
 use mathlib.Core.Bool.{Bool, true, false, cond}
 use mathlib.Core.List.{List, [], ◌++◌}
 use lib.ListN.{length}
-use Rattle.rounds.specs.declared.Verdict.{Verdict}
+use Rattle.rounds.specs.Verdicts.{Verdict}
 use Rattle.rounds.specs.Config.{Control}
 use Rattle.rounds.specs.Verdicts.{accepted}
 use Rattle.rounds.specs.Events.{if_accepted}
 use Rattle.words.specs.Layout.{Mem}
 use Rattle.records.specs.declared.Place.{Place}
-use Rattle.records.specs.declared.Record.{Record}
-use Rattle.records.specs.declared.Record.TheVariants.{Opening, Happens, End, Wrong, Cut}
-use Rattle.records.specs.Records.{parse, extent}
+use Rattle.records.specs.declared.Record.TheVariants.{Opening, Happens, End}
+use Rattle.records.specs.Records.{Reading, extent_of, parse, extent}
 use Rattle.records.proofs.Cutting.{parse_more}
 use Rattle.records.proofs.Whole.{extent_within, parse_none}
-use Rattle.trace.specs.declared.Ending.{Ending}
-use Rattle.trace.specs.declared.Told.{Told}
-use Rattle.trace.specs.declared.Turn.{Turn}
-use Rattle.trace.specs.declared.Turn.TheVariants.{More, Goes, Ends}
+use Rattle.std.specs.Prelude.{Option, Some, None, Result, Ok, Err}
+use Rattle.rounds.specs.declared.Refusal.{Refusal}
+use Rattle.trace.specs.Outcome.{Ending}
+use Rattle.trace.specs.declared.Heard.{Heard}
+use Rattle.trace.specs.declared.Gone.{Gone}
+use Rattle.trace.specs.Turns.{Turn, More, Goes, Ends, passes}
 use Rattle.trace.specs.Turns.{on_answer, on_opening, turn_on, words_on, turn, turned}
 use Rattle.trace.proofs.Values.{values_more}
 
@@ -29,30 +30,27 @@ pub no_bytes : (pl : Place) (c : Control) → turn pl c [] ≡ More
 unfolding turn turn_on
 no_bytes pl c = rw (parse_none pl)
 
-pub goes_not : {k : ℕ} {next : Place} {y : Told} {t : Turn} → t ≡ Goes k next y → t ≡ More → ⊥
+pub goes_not : {k : ℕ} {next : Place} {y : Option Heard} {t : Turn} → t ≡ Goes k next y → t ≡ More → ⊥
 goes_not e f = let q : ◌≡◌ {A = ℕ} 0 1 = cc in omega arith
 
-pub ends_not : {x : Ending} {t : Turn} → t ≡ Ends x → t ≡ More → ⊥
+pub ends_not : {x : Stop} {t : Turn} → t ≡ Ends x → t ≡ More → ⊥
 ends_not e f = let q : ◌≡◌ {A = ℕ} 0 1 = cc in omega arith
 
-judged_not : (v : Verdict) (k : ℕ) (next : Place) (y : Told) (x : Ending) → if_accepted v (Goes k next y) (Ends x) ≡ More → ⊥
-unfolding if_accepted
-judged_not v k next y x = go (accepted v)
-  where
-    go : (b : Bool) → cond b (Goes k next y) (Ends x) ≡ More → ⊥
-    go true = goes_not refl
-    go false = ends_not refl
+judged_not : (v : Verdict) (k : ℕ) (y : Option Heard) → passes v k y ≡ More → ⊥
+unfolding passes
+judged_not (Ok u) k y = goes_not refl
+judged_not (Err r) k y = ends_not refl
 
-pub more_cut : (pl : Place) (c : Control) (w : List ℕ) → turn pl c w ≡ More → parse pl w ≡ Cut
+pub more_cut : (pl : Place) (c : Control) (w : List ℕ) → turn pl c w ≡ More → parse pl w ≡ Ok None
 unfolding turn turn_on on_opening on_answer
 more_cut pl c w = go (parse pl w)
   where
-    go : (r : Record) → turn_on c w r ≡ More → r ≡ Cut
-    go (Opening n) e = absurd (judged_not _ _ _ _ _ e)
-    go (Happens v) e = absurd (judged_not _ _ _ _ _ e)
-    go End e = absurd (goes_not refl e)
-    go (Wrong f) e = absurd (ends_not refl e)
-    go Cut e = refl
+    go : (r : Reading) → turn_on c w r ≡ More → r ≡ Ok None
+    go (Ok (Some (Opening n))) e = absurd (judged_not _ _ _ e)
+    go (Ok (Some (Happens v))) e = absurd (judged_not _ _ _ e)
+    go (Ok (Some End)) e = absurd (goes_not refl e)
+    go (Err f) e = absurd (ends_not refl e)
+    go (Ok None) e = refl
 
 -- and the memory stays as it was
 pub more_kept : (pl : Place) (c : Control) (m : Mem) (w : List ℕ) → turn pl c w ≡ More → turned pl m w ≡ m
@@ -61,23 +59,23 @@ more_kept pl c m w e = rw (more_cut pl c w e)
 
 -- ---- bytes that follow a whole record
 module _ (w more : List ℕ) where
-  on_more : (c : Control) (r : Record) → extent r ≤ length w → turn_on c (w ++ more) r ≡ turn_on c w r
-  unfolding turn_on extent
-  on_more c (Opening n) l = rw (values_more n w more l)
-  on_more c (Happens e) l = refl
-  on_more c End l = refl
-  on_more c (Wrong f) l = refl
-  on_more c Cut l = refl
+  on_more : (c : Control) (r : Reading) → extent_of r ≤ length w → turn_on c (w ++ more) r ≡ turn_on c w r
+  unfolding turn_on extent extent_of
+  on_more c (Ok (Some (Opening n))) l = rw (values_more n w more l)
+  on_more c (Ok (Some (Happens e))) l = refl
+  on_more c (Ok (Some End)) l = refl
+  on_more c (Err f) l = refl
+  on_more c (Ok None) l = refl
 
-  words_more : (m : Mem) (r : Record) → extent r ≤ length w → words_on m (w ++ more) r ≡ words_on m w r
-  unfolding words_on extent
-  words_more m (Opening n) l = rw (values_more n w more l)
-  words_more m (Happens e) l = refl
-  words_more m End l = refl
-  words_more m (Wrong f) l = refl
-  words_more m Cut l = refl
+  words_more : (m : Mem) (r : Reading) → extent_of r ≤ length w → words_on m (w ++ more) r ≡ words_on m w r
+  unfolding words_on extent extent_of
+  words_more m (Ok (Some (Opening n))) l = rw (values_more n w more l)
+  words_more m (Ok (Some (Happens e))) l = refl
+  words_more m (Ok (Some End)) l = refl
+  words_more m (Err f) l = refl
+  words_more m (Ok None) l = refl
 
-  whole : (pl : Place) (c : Control) → (turn pl c w ≡ More → ⊥) → parse pl w ≡ Cut → ⊥
+  whole : (pl : Place) (c : Control) → (turn pl c w ≡ More → ⊥) → parse pl w ≡ Ok None → ⊥
   unfolding turn turn_on
   whole pl c h e = h (rw e)
 

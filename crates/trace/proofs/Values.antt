@@ -12,8 +12,7 @@ use Rattle.rounds.specs.Runs.{value_at, night}
 use Rattle.rounds.specs.Claims.{Agree}
 use Rattle.rounds.proofs.Demands.{Alike, nights_alike}
 use Rattle.records.specs.declared.Place.TheVariants.{First}
-use Rattle.records.specs.declared.Record.{Record}
-use Rattle.records.specs.declared.Record.TheVariants.{Opening, Happens, End, Wrong, Cut}
+use Rattle.records.specs.declared.Record.TheVariants.{Opening, Happens, End}
 use Rattle.records.specs.Records.{opening, judged, headed, parse, extent}
 use Rattle.records.specs.Script.{Script, word, words, values_of, stopped, on_record, script, after, joined}
 use Rattle.records.proofs.Cutting.{parse_more}
@@ -56,57 +55,57 @@ module _ (hi lo n : ℕ) (a b rest : List ℕ) (fa : length a ≡ 4 * n) (fb : l
       rw q (drop_at a rest (4 * n) fa ∙ sym (drop_at b rest (4 * n) fb))
 
   -- of an opening, as many processes as its byte says
-  Only : Record → Type 0
-  Only (Opening k) = k ≡ n
-  Only (Happens e) = Unit {0}
-  Only End = Unit {0}
-  Only (Wrong f) = Unit {0}
-  Only Cut = Unit {0}
+  Only : Reading → Type 0
+  Only (Ok (Some (Opening k))) = k ≡ n
+  Only (Ok (Some (Happens e))) = Unit {0}
+  Only (Ok (Some End)) = Unit {0}
+  Only (Err f) = Unit {0}
+  Only (Ok None) = Unit {0}
 
   only : Only (parse First u)
   unfolding Only
   only = holds_first u Only (λ l. tt) (λ l. tt) (λ f. tt) (λ h. refl)
 
-  same_script : (r : Record) → parse First u ≡ r → Only r → Placed First r
+  same_script : (r : Reading) → parse First u ≡ r → Only r → Placed First r
       → ((script First w).events ≡ (script First u).events) × (closes (script First w) ≡ closes (script First u))
   unfolding Only Placed on_record extent closes stopped
-  same_script (Opening k) e o h =
+  same_script (Ok (Some (Opening k))) e o h =
       let s : script First w ≡ script First u
       = script_is First w ∙ rw (same_record, e, o, same_rest) (sym (script_is First u ∙ rw (e, o))) in
       (ap (λ (x : Script). x.events) s, ap closes s)
-  same_script (Happens v) e o h = absurd h
-  same_script End e o h = absurd h
-  same_script (Wrong f) e o h = rw (script_wrong First w f (same_record ∙ e), script_wrong First u f e) (refl, ap (closing First) same_record)
-  same_script Cut e o h = rw (script_cut First w (same_record ∙ e), script_cut First u e) (refl, ap (closing First) same_record)
+  same_script (Ok (Some (Happens v))) e o h = absurd h
+  same_script (Ok (Some End)) e o h = absurd h
+  same_script (Err f) e o h = rw (script_wrong First w f (same_record ∙ e), script_wrong First u f e) (refl, ap (closing First) same_record)
+  same_script (Ok None) e o h = rw (script_cut First w (same_record ∙ e), script_cut First u e) (refl, ap (closing First) same_record)
 
 -- ---- what comes of a record where two scripts have the same events and close alike
 module _ (w u : List ℕ) (s t : Script) (events : s.events ≡ t.events) (closed : closes s ≡ closes t) where
   nights : (n : ℕ) → Alike n (values_of n w) (values_of n u) t.events
   nights n = nights_alike n (values_of n w) (values_of n u) t.events (values_length n w ∙ sym (values_length n u))
 
-  same_ending : (r : Record) → (outcome_of w s r).ending ≡ (outcome_of u t r).ending
+  same_ending : (r : Reading) → (outcome_of w s r).ending ≡ (outcome_of u t r).ending
   unfolding outcome_of nobody
-  same_ending (Opening n) = rw (closed, events, (nights n).answer)
-  same_ending (Happens e) = closed
-  same_ending End = closed
-  same_ending (Wrong f) = closed
-  same_ending Cut = closed
+  same_ending (Ok (Some (Opening n))) = rw (closed, events, (nights n).answer)
+  same_ending (Ok (Some (Happens e))) = closed
+  same_ending (Ok (Some End)) = closed
+  same_ending (Err f) = closed
+  same_ending (Ok None) = closed
 
-  same_control : (r : Record) → (outcome_of w s r).config.control ≡ (outcome_of u t r).config.control
+  same_control : (r : Reading) → (outcome_of w s r).config.control ≡ (outcome_of u t r).config.control
   unfolding outcome_of nobody
-  same_control (Opening n) = rw events (nights n).control
-  same_control (Happens e) = refl
-  same_control End = refl
-  same_control (Wrong f) = refl
-  same_control Cut = refl
+  same_control (Ok (Some (Opening n))) = rw events (nights n).control
+  same_control (Ok (Some (Happens e))) = refl
+  same_control (Ok (Some End)) = refl
+  same_control (Err f) = refl
+  same_control (Ok None) = refl
 
-  same_reports : (r : Record) → (outcome_of w s r).reports ≡ (outcome_of u t r).reports
+  same_reports : (r : Reading) → (outcome_of w s r).reports ≡ (outcome_of u t r).reports
   unfolding outcome_of nobody
-  same_reports (Opening n) = rw events (nights n).heard_of
-  same_reports (Happens e) = refl
-  same_reports End = refl
-  same_reports (Wrong f) = refl
-  same_reports Cut = refl
+  same_reports (Ok (Some (Opening n))) = rw events (nights n).heard_of
+  same_reports (Ok (Some (Happens e))) = refl
+  same_reports (Ok (Some End)) = refl
+  same_reports (Err f) = refl
+  same_reports (Ok None) = refl
 
 -- ---- more bytes only add to the events of an opening that is whole
 pub values_more : (n : ℕ) (w more : List ℕ) → 4 + 4 * n ≤ length w → values_of n (w ++ more) ≡ values_of n w
@@ -116,34 +115,34 @@ values_more n w more l =
     let t : 4 * n ≤ length (drop 4 w) = omega (arith, length-drop 4 w) in
     rw (drop-append-le 4 w more d, take-append-le (4 * n) (drop 4 w) more t)
 
-not_cut : (n : ℕ) → Opening n ≡ Cut → ⊥
+not_cut : (n : ℕ) → Opening n ≡ Ok None → ⊥
 not_cut n e = let q : ◌≡◌ {A = ℕ} 0 1 = cc in omega arith
 
 -- what the bytes behind w add
 later_of : List ℕ → List ℕ → List Event
 later_of w more = (script (script First w).place ((script First w).left ++ more)).events
 
-more_night : (w more : List ℕ) (n : ℕ) → parse First w ≡ Opening n
+more_night : (w more : List ℕ) (n : ℕ) → parse First w ≡ Ok (Some (Opening n))
     → (outcome (w ++ more)).config ≡ night n (values_of n w) ((script First w).events ++ later_of w more)
 unfolding outcome outcome_of joined after later_of extent
 more_night w more n e =
-    let whole : 4 + 4 * n ≤ length w = subst (λ (r : Record). extent r ≤ length w) e (extent_within First w) in
-    let same : parse First (w ++ more) ≡ Opening n = parse_more First w more (λ c. not_cut n (sym e ∙ c)) ∙ e in
+    let whole : 4 + 4 * n ≤ length w = subst (λ (r : Reading). extent_of r ≤ length w) e (extent_within First w) in
+    let same : parse First (w ++ more) ≡ Ok (Some (Opening n)) = parse_more First w more (λ c. not_cut n (sym e ∙ c)) ∙ e in
     rw (same, script_in_pieces First w more, values_more n w more whole)
 
 -- where the values agree on the reach of p after the bytes w and any more, p holds the same after w
-same_held : (w u more : List ℕ) (p : ℕ) (r : Record) → parse First w ≡ r → parse First u ≡ r → (script First w).events ≡ (script First u).events
-    → ((n : ℕ) → r ≡ Opening n → Agree (value_at (values_of n w)) (value_at (values_of n u)) ((outcome (w ++ more)).config.control.site p).reach)
+same_held : (w u more : List ℕ) (p : ℕ) (r : Reading) → parse First w ≡ r → parse First u ≡ r → (script First w).events ≡ (script First u).events
+    → ((n : ℕ) → r ≡ Ok (Some (Opening n)) → Agree (value_at (values_of n w)) (value_at (values_of n u)) ((outcome (w ++ more)).config.control.site p).reach)
     → (outcome_of w (script First w) r).config.content.holding p ≡ (outcome_of u (script First u) r).config.content.holding p
 unfolding outcome_of nobody
-same_held w u more p (Opening n) e f events agree =
+same_held w u more p (Ok (Some (Opening n))) e f events agree =
     rw (← events)
     ((nights_alike n (values_of n w) (values_of n u) (script First w).events (values_length n w ∙ sym (values_length n u))).holding (later_of w more) p
     (subst (λ (c : Config). Agree (value_at (values_of n w)) (value_at (values_of n u)) (c.control.site p).reach) (more_night w more n e) (agree n refl)))
-same_held w u more p (Happens v) e f events agree = refl
-same_held w u more p End e f events agree = refl
-same_held w u more p (Wrong x) e f events agree = refl
-same_held w u more p Cut e f events agree = refl
+same_held w u more p (Ok (Some (Happens v))) e f events agree = refl
+same_held w u more p (Ok (Some End)) e f events agree = refl
+same_held w u more p (Err x) e f events agree = refl
+same_held w u more p (Ok None) e f events agree = refl
 
 -- ---- two traces that differ in the values of their opening alone
 pub record Blind (w u : List ℕ) (n : ℕ) : Type 0 where
@@ -171,7 +170,7 @@ module _ (hi lo n : ℕ) (a b rest : List ℕ) (fa : length a ≡ 4 * n) (fb : l
   read : ((script First one).events ≡ (script First other).events) × (closes (script First one) ≡ closes (script First other))
   read = same_script hi lo n a b rest fa fb (parse First other) refl (only hi lo n a b rest fa fb) (placed First other)
 
-  its_size : (k : ℕ) → parse First other ≡ Opening k → k ≡ n
+  its_size : (k : ℕ) → parse First other ≡ Ok (Some (Opening k)) → k ≡ n
   unfolding Only
   its_size k e = subst (Only hi lo n a b rest fa fb) e (only hi lo n a b rest fa fb)
 

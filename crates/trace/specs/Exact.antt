@@ -4,10 +4,8 @@ use Rattle.std.specs.Prelude.{ℕ, ◌≡◌, List}
 use Rattle.words.specs.Layout.{Mem}
 use Rattle.words.specs.Spelled.{control_of}
 use Rattle.records.specs.declared.Place.{Place}
-use Rattle.trace.specs.declared.Ending.{Ending}
-use Rattle.trace.specs.declared.Turn.{Turn}
-use Rattle.trace.specs.Outcome.{outcome}
-use Rattle.trace.specs.Turns.{turn, turned, trace_words}
+use Rattle.trace.specs.Outcome.{Ending, outcome}
+use Rattle.trace.specs.Turns.{Turn, turn, turned, trace_words}
 use Rattle.trace.specs.Haste.{haste}
 
 -- ---- the bytes are w, the memory is m at entry and m' at exit

@@ -1,6 +1,7 @@
 -- Sends and receives are most of a trace, and tell nothing: those that stand whole at the head of the bytes and are accepted, all at once. What is done
 -- of them is what their turns do. Assumes nothing.
-use Rattle.std.specs.Prelude.{ℕ, zero, suc, ◌+◌, Bool, false, cond, ◌&&◌, List, [], ◌∷◌, ltb, eqb, length, get_or}
+use Rattle.std.specs.Prelude.{ℕ, zero, suc, ◌+◌, Bool, false, cond, ◌&&◌, List, [], ◌∷◌, ltb, eqb, length, get_or, Option, Some, None}
+use Rattle.rounds.specs.declared.Event.{Event}
 use Rattle.rounds.specs.declared.Event.TheVariants.{Send, Receive}
 use Rattle.rounds.specs.Config.{Control}
 use Rattle.rounds.specs.Verdicts.{accepted, verdict}
@@ -9,8 +10,6 @@ use Rattle.words.specs.Spelled.{control_of}
 use Rattle.words.specs.Calls.{applied}
 use Rattle.records.specs.declared.Place.{Place}
 use Rattle.records.specs.declared.Place.TheVariants.{First, Later, Behind}
-use Rattle.records.specs.declared.Record.{Record}
-use Rattle.records.specs.declared.Record.TheVariants.{Opening, Happens, End, Wrong, Cut}
 
 -- the bytes of either: a tag, a length of 2, and two processes
 abbrev pub hasty_extent : ℕ
@@ -19,27 +18,21 @@ hasty_extent = 5
 unfoldable pub head_is : ℕ → List ℕ → Bool
 head_is tag w = eqb (get_or w 0 0) tag && (eqb (get_or w 1 0) 0 && eqb (get_or w 2 0) 2)
 
--- the send or the receive that stands whole at the head of the bytes, and `Cut` where there is none
-unfoldable pub hasty : List ℕ → Record
+-- the send or the receive that stands whole at the head of the bytes, if any does
+unfoldable pub hasty : List ℕ → Option Event
 hasty w =
-    cond (ltb (length w) hasty_extent) Cut
-    (cond (head_is 16 w) (Happens (Send (get_or w 3 0) (get_or w 4 0)))
-    (cond (head_is 17 w) (Happens (Receive (get_or w 3 0) (get_or w 4 0))) Cut))
+    cond (ltb (length w) hasty_extent) None
+    (cond (head_is 16 w) (Some (Send (get_or w 3 0) (get_or w 4 0)))
+    (cond (head_is 17 w) (Some (Receive (get_or w 3 0) (get_or w 4 0))) None))
 
--- whether it is accepted, and the memory after it
-unfoldable pub goes : Control → Record → Bool
-goes c (Opening n) = false
-goes c (Happens e) = accepted (verdict c e)
-goes c End = false
-goes c (Wrong f) = false
-goes c Cut = false
+-- whether there is one that is accepted, and the memory after it
+unfoldable pub goes : Control → Option Event → Bool
+goes c (Some e) = accepted (verdict c e)
+goes c None = false
 
-unfoldable pub left : Mem → Record → Mem
-left m (Opening n) = m
-left m (Happens e) = applied m e
-left m End = m
-left m (Wrong f) = m
-left m Cut = m
+unfoldable pub left : Mem → Option Event → Mem
+left m (Some e) = applied m e
+left m None = m
 
 -- ---- as many as are accepted one after the other: their bytes, and the memory after them
 pub record Haste : Type 0 where

@@ -1,7 +1,7 @@
 // The replay of a trace: its records one after the other, read from the bytes and handed to the round machine in lent memory.
 #![tactic(auto)]
 
-ghost use Rattle.std.specs.Prelude.{◌+◌, ◌*◌, ◌≤◌, ◌<◌, ◌≡◌, length, get_or, take};
+ghost use Rattle.std.specs.Prelude.{◌+◌, ◌*◌, ◌≤◌, ◌<◌, ◌≡◌, length, take};
 ghost use Rattle.rounds.specs.Config.{Config};
 ghost use Rattle.rounds.specs.Verdicts.{open_verdict};
 ghost use Rattle.words.specs.Spelled.{control_of};
@@ -12,95 +12,107 @@ ghost use Rattle.trace.specs.Outcome as Outcome;
 ghost use Rattle.trace.specs.Turns as Turns;
 ghost use Rattle.trace.specs.Haste as Haste;
 ghost use Rattle.trace.specs.Exact.{RecordDone, HasteDone, TraceDone};
+ghost use Rattle.trace.specs.declared.Stop.TheVariants.{Refused, Faulty};
 
 use machine::RUN;
 use records::{Fault, Place, Record};
-use rounds::{Event, Verdict};
-use words::Answer;
+use rounds::{Event, Refusal, Verdict};
+use words::Finished;
 
-// What the replay of a trace ends with. Its number is that of document 01.
-#[derive(Clone, Copy)]
-pub enum Ending {
-    // The verdict that refuses an opening or an event; accepted where the trace is read to its end.
-    Judged(Verdict),
+// What stops the replay of a trace before its end.
+#[derive(Clone, Copy, Debug, PartialEq, Eq)]
+pub enum Stop {
+    // An opening or an event is refused.
+    Refused(Refusal),
     // The bytes are no trace.
     Faulty(Fault),
 }
 
-// What an accepted record has to tell.
-#[derive(Clone, Copy)]
-pub enum Told {
-    Nothing,
-    // A step: the process, the round that it finished, and who was heard in it.
-    Heard(u8, u32, u32),
+impl From<Refusal> for Stop {
+    ghost from_gives = { λ refusal s. s ≡ Refused refusal };
+
+    fn from(refusal: Refusal) -> Stop {
+        Stop::Refused(refusal)
+    }
 }
 
-// What comes of the record at the head of the bytes.
-#[derive(Clone, Copy)]
-pub enum Turn {
-    // The bytes are cut short.
-    More,
-    // It is accepted: so many bytes are used, the trace has come to this place, and this is told.
-    Goes(usize, Place, Told),
-    Ends(Ending),
+impl From<Fault> for Stop {
+    ghost from_gives = { λ fault s. s ≡ Faulty fault };
+
+    fn from(fault: Fault) -> Stop {
+        Stop::Faulty(fault)
+    }
 }
+
+// How the replay of a trace ends: the trace is read to its end, or something stops it.
+pub type Ending = Result<(), Stop>;
+
+// What an accepted step has to tell: the process, the round that it finished, and who was heard in it.
+#[derive(Clone, Copy, Debug, PartialEq, Eq)]
+pub struct Heard {
+    pub process: u8,
+    pub round: u32,
+    pub heard: u32,
+}
+
+// What an accepted record has done: so many bytes are used, the trace has come to this place, and this is told.
+#[derive(Clone, Copy, Debug, PartialEq, Eq)]
+pub struct Gone {
+    pub used: usize,
+    pub place: Place,
+    pub told: Option<Heard>,
+}
+
+// What comes of the bytes: nothing while they are cut short, what the accepted record at their head has done, or what stops the replay.
+pub type Turn = Result<Option<Gone>, Stop>;
 
 // The values of an opening record, at most: its N is one byte.
 const MOST_VALUES: usize = 255;
 
-// Tag and length of a send and of a receive, as one number, and the bytes of either.
-const SEND: u32 = 0x100002;
-
-const RECEIVE: u32 = 0x110002;
-
+// The bytes of a send and of a receive.
 const HASTY: usize = 5;
 
 // The number that document 01 gives an ending.
+#[tactic(auto, unfolding(crate::specs::Outcome::ending_number, rounds::specs::Verdicts::number_of))]
 pub fn number(e: Ending) -> u32
     ensures { result ≡ Outcome.ending_number e }
 {
     match e {
-        Ending::Judged(v) => rounds::number(v),
-        Ending::Faulty(f) => records::number(f),
+        Ok(()) => 0,
+        Err(Stop::Refused(refusal)) => rounds::number(Err(refusal)),
+        Err(Stop::Faulty(fault)) => records::number(fault),
     }
 }
 
 // What the end of the input means at a place.
+#[tactic(auto, unfolding(crate::specs::Outcome::at_end))]
 pub fn at_end(place: Place) -> Ending
     ensures { result ≡ Outcome.at_end place }
 {
     match place {
-        Place::First => Ending::Faulty(Fault::EndsInside),
-        Place::Later => Ending::Faulty(Fault::EndsInside),
-        Place::Behind => Ending::Judged(Verdict::Accepted),
+        Place::First => Err(Stop::Faulty(Fault::EndsInside)),
+        Place::Later => Err(Stop::Faulty(Fault::EndsInside)),
+        Place::Behind => Ok(()),
     }
 }
 
-// The byte at a place, and 0 past the last one.
-fn byte(bytes: &[u8], i: usize) -> u32
-    ensures { (result ≡ get_or bytes.now i 0) × (result < 256) }
-{
-    if i < bytes.len() { bytes[i] as u32 } else { 0 }
-}
-
-// Four bytes, big-endian.
+// Four bytes, big-endian; there are none past the last.
+#[tactic(auto, unfolding(records::specs::Script::word))]
 fn word(bytes: &[u8], i: usize) -> u32
     requires { i < 1024 }
     ensures { result ≡ Script.word bytes.now i }
 {
-    ((byte(bytes, i) * 256 + byte(bytes, i + 1)) * 256 + byte(bytes, i + 2)) * 256
-        + byte(bytes, i + 3)
+    let byte = |k: usize| bytes.get(k).copied().unwrap_or(0);
+    u32::from_be_bytes([byte(i), byte(i + 1), byte(i + 2), byte(i + 3)])
 }
 
-// The first n values become the first n words of the bytes.
-fn fill(values: &mut [u32], bytes: &[u8], n: usize)
-    requires { (n ≤ length values.old) × (n < 256) }
-    ensures { take n values.new ≡ Script.words n bytes.now }
+// The first values become the first words of the bytes.
+fn fill(values: &mut [u32], bytes: &[u8])
+    requires { length values.old < 256 }
+    ensures { values.new ≡ Script.words (length values.old) bytes.now }
 {
-    let mut i: usize = 0;
-    while i < n {
-        values[i] = word(bytes, 4 * i);
-        i += 1;
+    for (i, value) in values.iter_mut().enumerate() {
+        *value = word(bytes, 4 * i);
     }
 }
 
@@ -110,9 +122,9 @@ fn begin(run: &mut [u32; RUN], n: u8, bytes: &[u8]) -> Verdict
         × (run.new ≡ begins run.old n (Script.words n bytes.now)) }
 {
     let mut values = [0u32; MOST_VALUES];
-    let k = n as usize;
-    fill(&mut values, bytes, k);
-    machine::begin(run, n as u32, &values[..k])
+    let given = &mut values[..n as usize];
+    fill(given, bytes);
+    machine::begin(run, n as u32, given)
 }
 
 // An opening at the head of the bytes.
@@ -122,56 +134,46 @@ fn opened(run: &mut [u32; RUN], n: u8, bytes: &[u8]) -> Turn
         × (run.new ≡ begins run.old n (Script.values_of n bytes.now)) }
 {
     let used = records::extent(Record::Opening(n));
-    let judged = begin(run, n, &bytes[4..used]);
-    if rounds::number(judged) == 0 {
-        return Turn::Goes(used, Place::Later, Told::Nothing);
-    }
-    Turn::Ends(Ending::Judged(judged))
+    begin(run, n, &bytes[4..used])?;
+    Ok(Some(Gone {
+        used,
+        place: Place::Later,
+        told: None,
+    }))
 }
 
 // The process that acts.
+#[tactic(auto, unfolding(words::specs::Shows::actor))]
 fn actor(e: Event) -> u8
     ensures { result ≡ Shows.actor e }
 {
     match e {
-        Event::Send(p, _) => p,
-        Event::Receive(p, _) => p,
-        Event::Step(p) => p,
-        Event::Broadcast(p) => p,
+        Event::Send(p, _) | Event::Receive(p, _) | Event::Step(p) | Event::Broadcast(p) => p,
     }
 }
 
-// What an answer has to tell.
-fn tells(e: Event, a: Answer) -> Told
-    ensures { result ≡ Turns.tells e a }
+// What an accepted event has to tell.
+#[tactic(auto, unfolding(crate::specs::Turns::tells))]
+fn tells(e: Event, reported: Option<Finished>) -> Option<Heard>
+    ensures { result ≡ Turns.tells e (Ok reported) }
 {
-    match a {
-        Answer::Judged(_) => Told::Nothing,
-        Answer::Finished(round, heard) => Told::Heard(actor(e), round, heard),
-    }
-}
-
-// What comes of an answered event.
-fn on_answer(e: Event, a: Answer) -> Turn
-    ensures { result ≡ Turns.on_answer e a }
-{
-    let v = words::verdict(a);
-    if rounds::number(v) == 0 {
-        return Turn::Goes(
-            records::extent(Record::Happens(e)),
-            Place::Later,
-            tells(e, a),
-        );
-    }
-    Turn::Ends(Ending::Judged(v))
+    reported.map(|f| Heard {
+        process: actor(e),
+        round: f.round,
+        heard: f.heard,
+    })
 }
 
 // An event at the head of the bytes.
 fn happened(run: &mut [u32; RUN], e: Event) -> Turn
     ensures { (result ≡ Turns.on_answer e (answer (control_of run.old) e)) × (run.new ≡ applied run.old e) }
 {
-    let a = machine::apply(run, e);
-    on_answer(e, a)
+    let reported = machine::apply(run, e)?;
+    Ok(Some(Gone {
+        used: records::extent(Record::Happens(e)),
+        place: Place::Later,
+        told: tells(e, reported),
+    }))
 }
 
 // One record: what stands at the head of the bytes is read, and handed to the machine.
@@ -180,21 +182,18 @@ pub fn one_record(run: &mut [u32; RUN], bytes: &[u8], place: Place) -> Turn
     ensures meaning { (c : Config) → Shows.Shows run.old c → (result ≡ Turns.turn place c.control bytes.now)
         × Shows.Shows run.new (Turns.next place c bytes.now) }
 {
-    let found = records::read(bytes, place);
+    let Some(found) = records::read(bytes, place)? else {
+        return Ok(None);
+    };
     match found {
         Record::Opening(n) => opened(run, n, bytes),
         Record::Happens(e) => happened(run, e),
-        Record::End => Turn::Goes(records::extent(Record::End), Place::Behind, Told::Nothing),
-        Record::Wrong(f) => Turn::Ends(Ending::Faulty(f)),
-        Record::Cut => Turn::More,
+        Record::End => Ok(Some(Gone {
+            used: records::extent(Record::End),
+            place: Place::Behind,
+            told: None,
+        })),
     }
-}
-
-// The tag and the length of a record as one number.
-fn head(bytes: &[u8]) -> u32
-    ensures { result ≡ get_or bytes.now 0 0 * 65536 + get_or bytes.now 1 0 * 256 + get_or bytes.now 2 0 }
-{
-    byte(bytes, 0) * 65536 + byte(bytes, 1) * 256 + byte(bytes, 2)
 }
 
 // The send or the receive that stands whole at the head of the bytes: whether there is one, and it is accepted.
@@ -202,19 +201,11 @@ fn hasten_one(run: &mut [u32; RUN], bytes: &[u8]) -> bool
     ensures { (result ≡ Haste.goes (control_of run.old) (Haste.hasty bytes.now))
         × (run.new ≡ Haste.left run.old (Haste.hasty bytes.now)) }
 {
-    if bytes.len() < HASTY {
-        return false;
+    match *bytes {
+        [0x10, 0, 2, p, q, ..] => machine::send(run, p, q).is_ok(),
+        [0x11, 0, 2, p, q, ..] => machine::receive(run, p, q).is_ok(),
+        _ => false,
     }
-    let h = head(bytes);
-    if h == SEND {
-        let v = machine::send(run, bytes[3], bytes[4]);
-        return rounds::number(v) == 0;
-    }
-    if h == RECEIVE {
-        let v = machine::receive(run, bytes[3], bytes[4]);
-        return rounds::number(v) == 0;
-    }
-    false
 }
 
 // As many of them as are accepted one after the other.
@@ -223,7 +214,7 @@ fn hasten_all(run: &mut [u32; RUN], bytes: &[u8]) -> usize
         × (run.new ≡ (Haste.haste_behind 0 run.old bytes.now).words) }
 {
     let mut at: usize = 0;
-    while hasten_one(&mut *run, &bytes[at..]) {
+    while hasten_one(run, &bytes[at..]) {
         at += HASTY;
     }
     at
@@ -231,13 +222,13 @@ fn hasten_all(run: &mut [u32; RUN], bytes: &[u8]) -> usize
 
 // Sends and receives are most of a trace, and tell nothing: those that stand at the head of the bytes and are accepted, all at once. Answers how many
 // bytes they are; what is done of them is what `one_record` does of each.
+#[tactic(auto, unfolding(crate::specs::Haste::haste, crate::specs::Haste::stays))]
 pub fn hasten(run: &mut [u32; RUN], bytes: &[u8], place: Place) -> usize
     ensures { HasteDone place run.old bytes.now result run.new }
 {
     match place {
-        Place::First => 0,
         Place::Later => hasten_all(run, bytes),
-        Place::Behind => 0,
+        Place::First | Place::Behind => 0,
     }
 }
 
@@ -246,24 +237,15 @@ pub fn replay(run: &mut [u32; RUN], trace: &[u8]) -> Ending
     ensures exact { TraceDone trace.now result run.new }
     ensures meaning { Shows.Shows run.new (Outcome.outcome trace.now).config }
 {
-    machine::clear(&mut *run);
+    machine::clear(run);
     let mut at: usize = 0;
     let mut place = Place::First;
     loop {
-        let more = hasten(&mut *run, &trace[at..], place);
-        at += more;
-        let t = one_record(&mut *run, &trace[at..], place);
-        match t {
-            Turn::More => {
-                return at_end(place);
-            }
-            Turn::Goes(used, next, _) => {
-                at += used;
-                place = next;
-            }
-            Turn::Ends(e) => {
-                return e;
-            }
-        }
+        at += hasten(run, &trace[at..], place);
+        let Some(gone) = one_record(run, &trace[at..], place)? else {
+            return at_end(place);
+        };
+        at += gone.used;
+        place = gone.place;
     }
 }
