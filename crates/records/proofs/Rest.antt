@@ -3,9 +3,8 @@
 use mathlib.Core.Path.{◌≡◌}
 use mathlib.Core.List.{List}
 use Prim.Native.Nat.{ℕ, ◌-◌}
-use native.Mathlib.Omega.{arith}
-use lib.ListN.{length, take, drop, length-drop}
-use lib.Seq.{take_all}
+use lib.ListN.{length, take, drop}
+use Rattle.std.proofs.lemmas.List.{take_rest}
 
 pub rest : (k : ℕ) (w : List ℕ) → take (length w - k) (drop k w) ≡ drop k w
-rest k w = take_all (length w - k) (drop k w) (omega (arith, length-drop k w))
+rest k w = take_rest w k

@@ -92,14 +92,6 @@ fn byte(bytes: &[u8], i: usize) -> u8
     bytes.get(i).copied().unwrap_or(0)
 }
 
-// Whether a tag stands where it may not; first says that the record is the first.
-#[tactic(auto, unfolding(crate::specs::Records::misplaced))]
-fn misplaced(first: bool, t: Tag) -> bool
-    ensures { result ≡ Records.misplaced first t }
-{
-    first != matches!(t, Tag::Opening)
-}
-
 // The length of a body that is not an opening's.
 #[tactic(auto, unfolding(crate::specs::Records::size_of))]
 fn size(t: Tag) -> usize
@@ -162,8 +154,8 @@ fn opening(length: usize, body: &[u8]) -> Result<Option<Record>, Fault>
     Ok(Some(Record::Opening(n)))
 }
 
-// Any record: a head of three bytes, big-endian as all numbers; its tag, its place, then its length and body.
-#[tactic(auto, unfolding(crate::specs::Records::headed, crate::specs::Records::judged))]
+// Any record, with a head of three bytes, big-endian as all numbers: its tag, its place, then its length and body.
+#[tactic(auto, unfolding(crate::specs::Records::headed, crate::specs::Records::judged, crate::specs::Records::misplaced))]
 fn headed(first: bool, bytes: &[u8]) -> Result<Option<Record>, Fault>
     ensures { result ≡ Records.headed first bytes.now }
 {
@@ -171,7 +163,7 @@ fn headed(first: bool, bytes: &[u8]) -> Result<Option<Record>, Fault>
         return Ok(None);
     };
     let tag = Tag::try_from(*tag)?;
-    if misplaced(first, tag) {
+    if first != (tag == Tag::Opening) {
         return Err(Fault::WrongPlace);
     }
     let length = usize::from(u16::from_be_bytes([*high, *low]));
