@@ -6,11 +6,8 @@ use mathlib.Core.List.{List}
 use Rattle.sets.proofs.Determined.{determined}
 use Rattle.words.specs.Layout.{Mem}
 use Rattle.records.specs.declared.Place.{Place}
-use Rattle.std.specs.Prelude.{Option, Some, None, Result, Ok, Err}
-use Rattle.rounds.specs.declared.Refusal.{Refusal}
 use Rattle.trace.specs.Outcome.{Ending}
-use Rattle.trace.specs.declared.Gone.{Gone}
-use Rattle.trace.specs.Turns.{Turn, More, Goes, Ends, passes}
+use Rattle.trace.specs.Turns.{Turn}
 use Rattle.trace.specs.Exact.{RecordDone, HasteDone, TraceDone}
 
 module _ (pl : Place) (m : Mem) (w : List ℕ) {x y : Mem} where

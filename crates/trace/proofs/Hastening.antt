@@ -1,21 +1,19 @@
 -- Sends and receives taken all at once: they are turns that go on and tell nothing, so whatever such turns keep is kept. Assumes nothing.
-use Prim.Native.Nat.{ℕ, zero, suc, ◌+◌, ◌-◌, ◌*◌, ◌≤◌, ◌<◌}
+use Prim.Native.Nat.{ℕ, zero, suc, ◌+◌, ◌-◌, ◌≤◌, ◌<◌}
 use native.Mathlib.Omega.{arith}
 use mathlib.Core.Path.{◌≡◌, refl, sym, ap, ◌∙◌}
 use mathlib.Core.Bool.{Bool, true, false, cond, ◌&&◌, true≢false}
 use mathlib.Core.List.{List, [], ◌∷◌}
-use borrow.Author.Tests.{lt-ltb, le-ltb, ltb-false, eq-eqb, ne_eqb, eqb-true, eqb-false}
+use borrow.Author.Tests.{le-ltb, ltb-false, eqb-true}
 use lib.Dec.{ltb, eqb}
 use lib.ListN.{length, get_or, take, drop, length-drop}
 use lib.Seq.{drop-drop, get_or-drop, get_or-take}
 use Rattle.rounds.specs.declared.Event.TheVariants.{Send, Receive}
-use Rattle.rounds.specs.Verdicts.{Verdict}
-use Rattle.rounds.specs.Verdicts.{accepted, number_of, verdict}
-use Rattle.rounds.specs.Events.{if_accepted}
+use Rattle.rounds.specs.Verdicts.{accepted, verdict}
 use Rattle.words.specs.Layout.{Mem}
 use Rattle.words.specs.Spelled.{control_of}
-use Rattle.words.specs.Calls.{applied, judged as judged_answer, answer}
-use Rattle.std.specs.Prelude.{Option, Some, None, Ok, Err}
+use Rattle.words.specs.Calls.{judged as judged_answer, answer}
+use Rattle.std.specs.Prelude.{Option, Some, None, Ok}
 use Rattle.rounds.specs.declared.Event.{Event}
 use Rattle.rounds.proofs.Answers.{is_accepted}
 use Rattle.trace.specs.Turns.{Goes, passes}
@@ -23,9 +21,8 @@ use Rattle.words.specs.Shows.{verdict_of}
 use Rattle.words.proofs.Meaning.{refused_unchanged}
 use Rattle.records.specs.declared.Place.{Place}
 use Rattle.records.specs.declared.Place.TheVariants.{First, Later, Behind}
-use Rattle.records.specs.declared.Record.TheVariants.{Opening, Happens, End}
-use Rattle.records.specs.Records.{Reading, extent_of, tag_of, misplaced, size_of, made, plain, judged, headed, parse, extent, event_extent}
-use Rattle.records.proofs.Rest.{rest}
+use Rattle.records.specs.declared.Record.TheVariants.{Happens}
+use Rattle.records.specs.Records.{tag_of, misplaced, size_of, made, plain, judged, headed, parse, extent, event_extent}
 use Rattle.trace.specs.Turns.{on_answer, tells, turn_on, words_on, turn, turned}
 use Rattle.trace.specs.Haste.{hasty_extent, head_is, hasty, goes, left, Haste, stays, further, haste_behind, haste}
 use Rattle.trace.proofs.Turning.{ahead, goes_ahead}
@@ -195,41 +192,34 @@ module _ (m : Mem) (w : List ℕ) where
   abbrev Found : Bool → Mem → Type 0
   Found b n = (b ≡ goes (control_of m) (hasty w)) × (n ≡ left m (hasty w))
 
--- ---- the loop over them: at a place, all that is taken is what was taken so far and what is taken from there on
-pub record Hastened (m₀ : Mem) (w : List ℕ) (m : Mem) (at : ℕ) : Type 0 where
-  pub within : at ≤ length w
-  pub used : (haste_behind 0 m₀ w).used ≡ at + (haste_behind 0 m (drop at w)).used
-  pub words : (haste_behind 0 m₀ w).words ≡ (haste_behind 0 m (drop at w)).words
+-- ---- the loop over them: all that is taken is what was taken so far and what is taken of the bytes v that are left
+pub record Hastened (m₀ : Mem) (w : List ℕ) (m : Mem) (v : List ℕ) : Type 0 where
+  pub within : length v ≤ length w
+  pub used : (haste_behind 0 m₀ w).used + length v ≡ length w + (haste_behind 0 m v).used
+  pub words : (haste_behind 0 m₀ w).words ≡ (haste_behind 0 m v).words
 
-module _ {m₀ : Mem} {w : List ℕ} {m n : Mem} {at : ℕ} {b : Bool} (h : Hastened m₀ w m at) (f : Found m (take (length w - at) (drop at w)) b n) where
-  found : Found m (drop at w) b n
-  found = (rw rest at f.0, rw rest at f.1)
+module _ {m₀ : Mem} {w : List ℕ} {m n : Mem} {v : List ℕ} {b : Bool} (h : Hastened m₀ w m v) (f : Found m v b n) where
+  pub hastens_far : b ≡ true → hasty_extent ≤ length v
+  hastens_far e = whole m v (sym f.0 ∙ e)
 
-  pub hastens_far : b ≡ true → at + hasty_extent ≤ length w
-  hastens_far e =
-      let l = whole m (drop at w) (sym found.0 ∙ e) in
-      omega (arith, h.within, l, length-drop at w)
-
-  pub hastens_on : b ≡ true → Hastened m₀ w n (at + hasty_extent)
+  pub hastens_on : b ≡ true → Hastened m₀ w n (drop hasty_extent v)
   unfolding further
   hastens_on e =
-      let far = hastens_far e in
-      let on = goes_haste m (drop at w) (sym found.0 ∙ e) in
-      let next : drop hasty_extent (drop at w) ≡ drop (at + hasty_extent) w = drop-drop hasty_extent at w in
-      let more : (haste_behind 0 m (drop at w)).used ≡ hasty_extent + (haste_behind 0 n (drop (at + hasty_extent) w)).used
-      = rw (found.1, ← next) (ap (λ (x : Haste). x.used) on) in
+      let on = goes_haste m v (sym f.0 ∙ e) in
+      let more : (haste_behind 0 m v).used ≡ hasty_extent + (haste_behind 0 n (drop hasty_extent v)).used
+      = rw f.1 (ap (λ (x : Haste). x.used) on) in
       record {
-        within = far;
-        used = omega (arith, h.used, more);
-        words = h.words ∙ rw (found.1, ← next) (ap (λ (x : Haste). x.words) on);
+        within = omega (arith, h.within, length-drop hasty_extent v);
+        used = omega (arith, h.used, more, hastens_far e, length-drop hasty_extent v);
+        words = h.words ∙ rw f.1 (ap (λ (x : Haste). x.words) on);
       }
 
-  pub hastens_no_more : b ≡ false → (at ≡ (haste_behind 0 m₀ w).used) × (n ≡ (haste_behind 0 m₀ w).words)
+  pub hastens_no_more : b ≡ false → (length w - length v ≡ (haste_behind 0 m₀ w).used) × (n ≡ (haste_behind 0 m₀ w).words)
   unfolding stays
   hastens_no_more e =
-      let off = stays_haste m (drop at w) (sym found.0 ∙ e) in
-      let none : (haste_behind 0 m (drop at w)).used ≡ 0 = ap (λ (x : Haste). x.used) off in
-      (omega (arith, h.used, none), found.1 ∙ sym (h.words ∙ ap (λ (x : Haste). x.words) off))
+      let off = stays_haste m v (sym f.0 ∙ e) in
+      let none : (haste_behind 0 m v).used ≡ 0 = ap (λ (x : Haste). x.used) off in
+      (omega (arith, h.used, h.within, none), f.1 ∙ sym (h.words ∙ ap (λ (x : Haste). x.words) off))
 
-pub not_yet : (m : Mem) (w : List ℕ) → Hastened m w m 0
+pub not_yet : (m : Mem) (w : List ℕ) → Hastened m w m w
 not_yet m w = record { within = omega arith; used = omega arith; words = refl }

@@ -1,16 +1,12 @@
 -- What the loop of a replay needs: an accepted record goes over a byte at least and no further than the bytes, and what a turn at a place in the
 -- trace leaves ahead. Assumes nothing.
-use Prim.Native.Nat.{ℕ, ◌+◌, ◌-◌, ◌≤◌, ◌<◌}
+use Prim.Native.Nat.{ℕ, ◌-◌, ◌≤◌, ◌<◌}
 use native.Mathlib.Omega.{arith}
-use mathlib.Core.Path.{◌≡◌, sym, ◌∙◌, subst}
-use mathlib.Core.Bool.{Bool, true, false, cond}
+use mathlib.Core.Path.{◌≡◌, sym, ap, ◌∙◌, subst}
 use mathlib.Core.List.{List}
-use lib.ListN.{length, take, drop, length-drop}
-use lib.Seq.{drop-drop}
+use lib.ListN.{length, take, drop}
 use Rattle.rounds.specs.Verdicts.{Verdict}
 use Rattle.rounds.specs.Config.{Control}
-use Rattle.rounds.specs.Verdicts.{accepted}
-use Rattle.rounds.specs.Events.{if_accepted}
 use Rattle.words.specs.Layout.{Mem}
 use Rattle.words.specs.Spelled.{control_of}
 use Rattle.words.specs.Calls.{blank}
@@ -18,11 +14,12 @@ use Rattle.records.specs.declared.Place.{Place}
 use Rattle.records.specs.declared.Place.TheVariants.{First}
 use Rattle.records.specs.declared.Record.TheVariants.{Opening, Happens, End}
 use Rattle.records.specs.Records.{Reading, extent_of, parse, extent}
-use Rattle.records.proofs.Rest.{rest}
-use Rattle.records.proofs.Whole.{extent_within, event_some}
-use Rattle.std.specs.Prelude.{Option, Some, None, Result, Ok, Err}
-use Rattle.rounds.specs.declared.Refusal.{Refusal}
+use Rattle.std.proofs.lemmas.List.{take_rest}
+use Rattle.std.specs.Prelude.{IsErrAnd}
 use Rattle.trace.specs.Outcome.{Ending}
+use Rattle.records.proofs.Whole.{extent_within, event_some}
+use Rattle.std.specs.Prelude.{Option, Some, None, Ok, Err}
+use Rattle.trace.specs.declared.Stop.{Stop}
 use Rattle.trace.specs.declared.Heard.{Heard}
 use Rattle.trace.specs.declared.Gone.{Gone}
 use Rattle.trace.specs.Turns.{Turn, More, Goes, Ends, passes}
@@ -55,50 +52,40 @@ pub goes_within : {k : ℕ} {next : Place} {t : Option Heard} (pl : Place) (c : 
 unfolding turn Within
 goes_within pl c w e = subst (Within w) e (record_within c w (parse pl w) (extent_within pl w))
 
--- ---- how far the loop has come in the trace w: what is ahead from the place at on is what is ahead of all of it
-pub record ComeTo (w : List ℕ) (pl : Place) (m : Mem) (at : ℕ) : Type 0 where
-  pub within : at ≤ length w
-  pub ahead_of : ahead pl m (drop at w) ≡ ahead First blank w
+-- ---- how far the loop has come: what is ahead of the bytes v that are left is what is ahead of the whole trace w
+pub record ComeTo (w : List ℕ) (pl : Place) (m : Mem) (v : List ℕ) : Type 0 where
+  pub ahead_of : ahead pl m v ≡ ahead First blank w
 
 -- ---- sends and receives taken all at once from there on: m' is the memory that they leave
-pub hastened : {w : List ℕ} {pl : Place} {m m' : Mem} {at more : ℕ} → ComeTo w pl m at
-    → (more ≡ (haste pl m (take (length w - at) (drop at w))).used) × (m' ≡ (haste pl m (take (length w - at) (drop at w))).words)
-    → ComeTo w pl m' (at + more)
-hastened {w} {pl} {m} {m'} {at} h e =
-    let used = rw rest at e.0 in
-    let words = rw rest at e.1 in
-    let far = haste_within pl m (drop at w) in
-    record {
-      within = omega (arith, h.within, far, used, length-drop at w);
-      ahead_of = rw (used, words, ← drop-drop (haste pl m (drop at w)).used at w) (sym (haste_ahead pl m (drop at w)) ∙ h.ahead_of);
-    }
+pub hastened : {w v : List ℕ} {pl : Place} {m m' : Mem} {more : ℕ} → ComeTo w pl m v
+    → (more ≡ (haste pl m v).used) × (m' ≡ (haste pl m v).words) → ComeTo w pl m' (drop more v)
+hastened {v = v} {pl = pl} {m = m} h e = record { ahead_of = rw (e.0, e.1) (sym (haste_ahead pl m v) ∙ h.ahead_of) }
 
--- ---- the turn there: its bytes are those from the place on, x is its answer, and m' the memory that it leaves
-pub record Taken (w : List ℕ) (pl : Place) (m m' : Mem) (at : ℕ) (x : Turn) : Type 0 where
-  pub so : ComeTo w pl m at
-  pub answer : x ≡ turn pl (control_of m) (drop at w)
-  pub words : m' ≡ turned pl m (drop at w)
+pub hastened_within : (pl : Place) (m : Mem) (v : List ℕ) {m' : Mem} {more : ℕ} → (more ≡ (haste pl m v).used) × (m' ≡ (haste pl m v).words) → more ≤ length v
+hastened_within pl m v e = rw e.0 (haste_within pl m v)
 
-pub taken : {w : List ℕ} {pl : Place} {m m' : Mem} {at : ℕ} {x : Turn} → ComeTo w pl m at
-    → (x ≡ turn pl (control_of m) (take (length w - at) (drop at w))) × (m' ≡ turned pl m (take (length w - at) (drop at w)))
-    → Taken w pl m m' at x
-taken h e = record { so = h; answer = rw rest at e.0; words = rw rest at e.1 }
+-- ---- the turn there, behind the first k of the bytes v: x is its answer, and m' the memory that it leaves
+module _ (v : List ℕ) (k : ℕ) {w : List ℕ} {pl : Place} {m m' : Mem} {x : Turn} (h : ComeTo w pl m (drop k v))
+    (e : (x ≡ turn pl (control_of m) (take (length v - k) (drop k v))) × (m' ≡ turned pl m (take (length v - k) (drop k v)))) where
+  answers : x ≡ turn pl (control_of m) (drop k v)
+  answers = rw take_rest at e.0
 
-module _ {w : List ℕ} {pl : Place} {m m' : Mem} {at : ℕ} {x : Turn} (c : Taken w pl m m' at x) where
-  pub goes_far : {k : ℕ} {next : Place} {t : Option Heard} → x ≡ Goes k next t → (0 < k) × (at + k ≤ length w)
-  goes_far e =
-      let far = goes_within pl (control_of m) (drop at w) (sym c.answer ∙ e) in
-      (far.0, omega (arith, far.1, length-drop at w, c.so.within))
+  leaves : m' ≡ turned pl m (drop k v)
+  leaves = rw take_rest at e.1
 
-  pub goes_on : {k : ℕ} {next : Place} {t : Option Heard} → x ≡ Goes k next t → ComeTo w next m' (at + k)
-  goes_on {k} e =
-      record {
-        within = (goes_far e).1;
-        ahead_of = rw (c.words, ← drop-drop k at w) (sym (goes_ahead pl m (drop at w) (sym c.answer ∙ e)) ∙ c.so.ahead_of);
-      }
+  pub goes_far : {g : Gone} → x ≡ Ok (Some g) → (0 < g.used) × (g.used ≤ length (take (length v - k) (drop k v)))
+  goes_far q = rw take_rest (goes_within pl (control_of m) (drop k v) (sym answers ∙ q))
+
+  pub goes_on : {g : Gone} → x ≡ Ok (Some g) → ComeTo w g.place m' (drop g.used (drop k v))
+  goes_on q = record { ahead_of = rw leaves (sym (goes_ahead pl m (drop k v) (sym answers ∙ q)) ∙ h.ahead_of) }
 
   pub more_last : x ≡ More → (at_end pl ≡ (outcome w).ending) × (m' ≡ trace_words w)
-  more_last e = ahead_ends w (rw c.words (sym c.so.ahead_of ∙ more_ahead pl m (drop at w) (sym c.answer ∙ e)))
+  more_last q = ahead_ends w (rw leaves (sym h.ahead_of ∙ more_ahead pl m (drop k v) (sym answers ∙ q)))
 
   pub ends_last : {y : Stop} → x ≡ Ends y → (Err y ≡ (outcome w).ending) × (m' ≡ trace_words w)
-  ends_last e = ahead_ends w (rw c.words (sym c.so.ahead_of ∙ ends_ahead pl m (drop at w) (sym c.answer ∙ e)))
+  ends_last q = ahead_ends w (rw leaves (sym h.ahead_of ∙ ends_ahead pl m (drop k v) (sym answers ∙ q)))
+
+-- ---- a stop that `?` hands on is the stop
+pub handed_on : {v : Ending} {y : Stop} → IsErrAnd v (λ e. e ≡ y) → v ≡ Err y
+handed_on {v = Ok u} h = absurd h
+handed_on {v = Err z} h = ap Err h

@@ -5,7 +5,6 @@ use native.Mathlib.Omega.{arith}
 use mathlib.Core.Path.{◌≡◌, refl, ◌∙◌}
 use mathlib.Core.Bool.{Bool, true, false, cond}
 use mathlib.Core.List.{List}
-use borrow.Author.Tests.{eq-eqb}
 use lib.ListN.{length}
 use Rattle.rounds.specs.Verdicts.{Verdict}
 use Rattle.rounds.specs.Verdicts.{Accepted}
@@ -26,17 +25,13 @@ use Rattle.records.specs.declared.Place.TheVariants.{First}
 use Rattle.records.specs.declared.Fault.{Fault}
 use Rattle.records.specs.declared.Fault.TheVariants.{EndsInside, UnknownTag, WrongLength, WrongPlace, BytesBehind}
 use Rattle.records.specs.declared.Record.TheVariants.{Opening, Happens, End}
-use Rattle.records.specs.Records.{Reading, extent_of, fault_number, parse}
+use Rattle.records.specs.Records.{Reading, fault_number, parse}
 use Rattle.records.specs.Script.{Script, values_of, stopped, script}
 use Rattle.records.proofs.Whole.{Placed, placed}
 use Rattle.records.proofs.Scripts.{script_wrong, script_cut}
-use Rattle.std.specs.Prelude.{Option, Some, None, Result, Ok, Err}
-use Rattle.rounds.specs.declared.Refusal.{Refusal}
+use Rattle.std.specs.Prelude.{Some, None, Ok, Err}
 use Rattle.trace.specs.Outcome.{Ending}
-use Rattle.trace.specs.declared.Stop.{Stop}
-use Rattle.trace.specs.declared.Stop.TheVariants.{Refused, Faulty}
-use Rattle.trace.specs.declared.Gone.{Gone}
-use Rattle.trace.specs.Turns.{Turn, More, Goes, Ends, passes}
+use Rattle.trace.specs.Turns.{Turn}
 use Rattle.trace.specs.Outcome.{ending_number, at_end, closing, closes, ended_by, nobody, outcome_of, outcome}
 use Rattle.trace.specs.Claims.{Revalued}
 use Rattle.trace.specs.Exact.{RecordDone, TraceDone}
@@ -62,7 +57,7 @@ replay_meant w p = (p, rw p.1 (trace_shows w))
 
 -- ---- one record: where the memory shows a configuration, what comes of it is the abstract machine's, and the memory then shows the next one
 module _ (m : Mem) (c : Config) (w : List ℕ) (k : Shows m c) where
-  opened_shows : (n : ℕ) → Shows (begins m n (values_of n w)) (run_on c w (Opening n))
+  opened_shows : (n : ℕ) → Shows (begins m n (values_of n w)) (run_on c w (Ok (Some (Opening n))))
   unfolding run_on begins if_accepted
   opened_shows n = go (accepted (open_verdict n (length (values_of n w)))) refl
     where

@@ -3,24 +3,19 @@
 use Prim.Native.Nat.{ℕ, ◌≤◌}
 use native.Mathlib.Omega.{arith}
 use mathlib.Core.Path.{◌≡◌, refl}
-use mathlib.Core.Bool.{Bool, true, false, cond}
 use mathlib.Core.List.{List, [], ◌++◌}
 use lib.ListN.{length}
 use Rattle.rounds.specs.Verdicts.{Verdict}
 use Rattle.rounds.specs.Config.{Control}
-use Rattle.rounds.specs.Verdicts.{accepted}
-use Rattle.rounds.specs.Events.{if_accepted}
 use Rattle.words.specs.Layout.{Mem}
 use Rattle.records.specs.declared.Place.{Place}
 use Rattle.records.specs.declared.Record.TheVariants.{Opening, Happens, End}
 use Rattle.records.specs.Records.{Reading, extent_of, parse, extent}
 use Rattle.records.proofs.Cutting.{parse_more}
 use Rattle.records.proofs.Whole.{extent_within, parse_none}
-use Rattle.std.specs.Prelude.{Option, Some, None, Result, Ok, Err}
-use Rattle.rounds.specs.declared.Refusal.{Refusal}
-use Rattle.trace.specs.Outcome.{Ending}
+use Rattle.std.specs.Prelude.{Option, Some, None, Ok, Err}
+use Rattle.trace.specs.declared.Stop.{Stop}
 use Rattle.trace.specs.declared.Heard.{Heard}
-use Rattle.trace.specs.declared.Gone.{Gone}
 use Rattle.trace.specs.Turns.{Turn, More, Goes, Ends, passes}
 use Rattle.trace.specs.Turns.{on_answer, on_opening, turn_on, words_on, turn, turned}
 use Rattle.trace.proofs.Values.{values_more}

@@ -22,17 +22,13 @@ use Rattle.records.specs.declared.Place.{Place}
 use Rattle.records.specs.declared.Place.TheVariants.{First, Later, Behind}
 use Rattle.records.specs.declared.Fault.{Fault}
 use Rattle.records.specs.declared.Record.TheVariants.{Opening, Happens, End}
-use Rattle.records.specs.Records.{Reading, extent_of, parse, extent, event_extent}
+use Rattle.records.specs.Records.{Reading, parse, extent, event_extent}
 use Rattle.records.specs.Script.{Script, values_of, stopped, adds, on_record, script}
 use Rattle.records.proofs.Whole.{each_placed}
 use Rattle.records.proofs.Scripts.{script_is, script_wrong, script_cut}
-use Rattle.std.specs.Prelude.{Option, Some, None, Result, Ok, Err}
-use Rattle.rounds.specs.declared.Refusal.{Refusal}
-use Rattle.trace.specs.Outcome.{Ending}
+use Rattle.std.specs.Prelude.{Option, Some, None, Ok, Err}
 use Rattle.trace.specs.declared.Stop.{Stop}
-use Rattle.trace.specs.declared.Stop.TheVariants.{Refused, Faulty}
 use Rattle.trace.specs.declared.Heard.{Heard}
-use Rattle.trace.specs.declared.Gone.{Gone}
 use Rattle.trace.specs.Turns.{Turn, More, Goes, Ends, passes}
 use Rattle.trace.specs.Outcome.{nobody, outcome_of, outcome}
 use Rattle.trace.specs.Turns.{reports_of, on_answer, on_opening, tells, turn_on, words_on, turn, turned}

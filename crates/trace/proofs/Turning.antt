@@ -2,12 +2,11 @@
 -- what the whole trace comes to. Assumes nothing.
 use Prim.Native.Nat.{ℕ, ◌+◌, ◌*◌}
 use mathlib.Core.Path.{◌≡◌, refl, sym, ap, ◌∙◌}
-use mathlib.Core.Bool.{Bool, true, false, cond}
+use mathlib.Core.Bool.{false}
 use mathlib.Core.List.{List}
 use lib.ListN.{length, drop}
 use Rattle.rounds.specs.declared.Event.{Event}
 use Rattle.rounds.specs.Verdicts.{Verdict, accepted, open_verdict, verdict}
-use Rattle.rounds.specs.Events.{if_accepted}
 use Rattle.rounds.specs.Runs.{night_verdict}
 use Rattle.words.specs.Layout.{Mem}
 use Rattle.words.specs.Spelled.{control_of}
@@ -19,17 +18,15 @@ use Rattle.records.specs.declared.Place.{Place}
 use Rattle.records.specs.declared.Place.TheVariants.{First, Later, Behind}
 use Rattle.records.specs.declared.Fault.{Fault}
 use Rattle.records.specs.declared.Record.TheVariants.{Opening, Happens, End}
-use Rattle.records.specs.Records.{Reading, extent_of, parse, extent, event_extent}
+use Rattle.records.specs.Records.{Reading, parse, extent, event_extent}
 use Rattle.records.specs.Script.{Script, values_of, stopped, adds, on_record, script}
 use Rattle.records.proofs.Whole.{each_placed}
 use Rattle.records.proofs.Scripts.{script_is, script_wrong, script_cut}
-use Rattle.std.specs.Prelude.{Option, Some, None, Result, Ok, Err}
-use Rattle.rounds.specs.declared.Refusal.{Refusal}
+use Rattle.std.specs.Prelude.{Option, Some, None, Ok, Err}
 use Rattle.trace.specs.Outcome.{Ending}
 use Rattle.trace.specs.declared.Stop.{Stop}
 use Rattle.trace.specs.declared.Stop.TheVariants.{Refused, Faulty}
 use Rattle.trace.specs.declared.Heard.{Heard}
-use Rattle.trace.specs.declared.Gone.{Gone}
 use Rattle.trace.specs.Turns.{Turn, More, Goes, Ends, passes}
 use Rattle.trace.specs.Outcome.{at_end, closing, closes, ended_by, nobody, outcome_of, outcome}
 use Rattle.trace.specs.Turns.{on_answer, on_opening, tells, turn_on, words_on, turn, turned, left_by, trace_words}

@@ -13,7 +13,8 @@ use Rattle.rounds.specs.Claims.{Agree}
 use Rattle.rounds.proofs.Demands.{Alike, nights_alike}
 use Rattle.records.specs.declared.Place.TheVariants.{First}
 use Rattle.records.specs.declared.Record.TheVariants.{Opening, Happens, End}
-use Rattle.records.specs.Records.{opening, judged, headed, parse, extent}
+use Rattle.std.specs.Prelude.{Some, None, Ok, Err}
+use Rattle.records.specs.Records.{Reading, tag_of, opening, judged, headed, parse, extent, extent_of}
 use Rattle.records.specs.Script.{Script, word, words, values_of, stopped, on_record, script, after, joined}
 use Rattle.records.proofs.Cutting.{parse_more}
 use Rattle.records.proofs.Whole.{extent_within, holds_first, Placed, placed}
@@ -46,7 +47,7 @@ module _ (hi lo n : ℕ) (a b rest : List ℕ) (fa : length a ≡ 4 * n) (fb : l
   as_long = length-append a rest ∙ rw (fa, ← fb) (sym (length-append b rest))
 
   same_record : parse First w ≡ parse First u
-  unfolding parse headed judged opening
+  unfolding parse headed tag_of judged opening
   same_record = rw as_long
 
   same_rest : drop (4 + 4 * n) w ≡ drop (4 + 4 * n) u
@@ -115,7 +116,7 @@ values_more n w more l =
     let t : 4 * n ≤ length (drop 4 w) = omega (arith, length-drop 4 w) in
     rw (drop-append-le 4 w more d, take-append-le (4 * n) (drop 4 w) more t)
 
-not_cut : (n : ℕ) → Opening n ≡ Ok None → ⊥
+not_cut : (n : ℕ) → ◌≡◌ {A = Reading} (Ok (Some (Opening n))) (Ok None) → ⊥
 not_cut n e = let q : ◌≡◌ {A = ℕ} 0 1 = cc in omega arith
 
 -- what the bytes behind w add
@@ -124,7 +125,7 @@ later_of w more = (script (script First w).place ((script First w).left ++ more)
 
 more_night : (w more : List ℕ) (n : ℕ) → parse First w ≡ Ok (Some (Opening n))
     → (outcome (w ++ more)).config ≡ night n (values_of n w) ((script First w).events ++ later_of w more)
-unfolding outcome outcome_of joined after later_of extent
+unfolding outcome outcome_of joined after later_of extent extent_of
 more_night w more n e =
     let whole : 4 + 4 * n ≤ length w = subst (λ (r : Reading). extent_of r ≤ length w) e (extent_within First w) in
     let same : parse First (w ++ more) ≡ Ok (Some (Opening n)) = parse_more First w more (λ c. not_cut n (sym e ∙ c)) ∙ e in

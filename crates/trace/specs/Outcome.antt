@@ -1,6 +1,6 @@
 -- What the replay of a trace comes to: how it ends, the run that it reaches on the abstract round machine, and the heard-of sets that its steps
 -- report. Assumes nothing.
-use Rattle.std.specs.Prelude.{ℕ, List, [], Option, Some, None, Result, Ok, Err, ⊤}
+use Rattle.std.specs.Prelude.{ℕ, List, [], Some, None, Result, Ok, Err, ⊤}
 use Rattle.rounds.specs.Config.{Config, no_run}
 use Rattle.rounds.specs.Verdicts.{Verdict, refusal_number}
 use Rattle.rounds.specs.Runs.{Report, night_verdict, night, night_reports}

@@ -90,8 +90,7 @@ pub fn at_end(place: Place) -> Ending
     ensures { result ≡ Outcome.at_end place }
 {
     match place {
-        Place::First => Err(Stop::Faulty(Fault::EndsInside)),
-        Place::Later => Err(Stop::Faulty(Fault::EndsInside)),
+        Place::First | Place::Later => Err(Stop::Faulty(Fault::EndsInside)),
         Place::Behind => Ok(()),
     }
 }
@@ -128,6 +127,7 @@ fn begin(run: &mut [u32; RUN], n: u8, bytes: &[u8]) -> Verdict
 }
 
 // An opening at the head of the bytes.
+#[tactic(auto, unfolding(crate::specs::Turns::on_opening, crate::specs::Turns::passes, records::specs::Records::extent, records::specs::Script::values_of))]
 fn opened(run: &mut [u32; RUN], n: u8, bytes: &[u8]) -> Turn
     requires { 4 + 4 * n ≤ length bytes.now }
     ensures { (result ≡ Turns.on_opening n (Script.values_of n bytes.now))
@@ -165,6 +165,7 @@ fn tells(e: Event, reported: Option<Finished>) -> Option<Heard>
 }
 
 // An event at the head of the bytes.
+#[tactic(auto, unfolding(crate::specs::Turns::on_answer, crate::specs::Turns::passes, words::specs::Shows::verdict_of, crate::specs::Turns::tells))]
 fn happened(run: &mut [u32; RUN], e: Event) -> Turn
     ensures { (result ≡ Turns.on_answer e (answer (control_of run.old) e)) × (run.new ≡ applied run.old e) }
 {
@@ -177,6 +178,7 @@ fn happened(run: &mut [u32; RUN], e: Event) -> Turn
 }
 
 // One record: what stands at the head of the bytes is read, and handed to the machine.
+#[tactic(auto, unfolding(crate::specs::Turns::turn, crate::specs::Turns::turned, crate::specs::Turns::turn_on, crate::specs::Turns::words_on))]
 pub fn one_record(run: &mut [u32; RUN], bytes: &[u8], place: Place) -> Turn
     ensures exact { RecordDone place run.old bytes.now result run.new }
     ensures meaning { (c : Config) → Shows.Shows run.old c → (result ≡ Turns.turn place c.control bytes.now)
@@ -197,13 +199,17 @@ pub fn one_record(run: &mut [u32; RUN], bytes: &[u8], place: Place) -> Turn
 }
 
 // The send or the receive that stands whole at the head of the bytes: whether there is one, and it is accepted.
+#[tactic(auto, using(std::proofs::lemmas::Bool::Decides::nat_tests), unfolding(crate::specs::Haste::hasty, crate::specs::Haste::goes, crate::specs::Haste::left, crate::specs::Haste::head_is, rounds::specs::Verdicts::accepted))]
 fn hasten_one(run: &mut [u32; RUN], bytes: &[u8]) -> bool
     ensures { (result ≡ Haste.goes (control_of run.old) (Haste.hasty bytes.now))
         × (run.new ≡ Haste.left run.old (Haste.hasty bytes.now)) }
 {
-    match *bytes {
-        [0x10, 0, 2, p, q, ..] => machine::send(run, p, q).is_ok(),
-        [0x11, 0, 2, p, q, ..] => machine::receive(run, p, q).is_ok(),
+    let [tag, 0, 2, p, q, ..] = *bytes else {
+        return false;
+    };
+    match tag {
+        0x10 => machine::send(run, p, q).is_ok(),
+        0x11 => machine::receive(run, p, q).is_ok(),
         _ => false,
     }
 }
@@ -213,11 +219,11 @@ fn hasten_all(run: &mut [u32; RUN], bytes: &[u8]) -> usize
     ensures { (result ≡ (Haste.haste_behind 0 run.old bytes.now).used)
         × (run.new ≡ (Haste.haste_behind 0 run.old bytes.now).words) }
 {
-    let mut at: usize = 0;
-    while hasten_one(run, &bytes[at..]) {
-        at += HASTY;
+    let mut rest = bytes;
+    while hasten_one(run, rest) {
+        rest = &rest[HASTY..];
     }
-    at
+    bytes.len() - rest.len()
 }
 
 // Sends and receives are most of a trace, and tell nothing: those that stand at the head of the bytes and are accepted, all at once. Answers how many
@@ -238,14 +244,15 @@ pub fn replay(run: &mut [u32; RUN], trace: &[u8]) -> Ending
     ensures meaning { Shows.Shows run.new (Outcome.outcome trace.now).config }
 {
     machine::clear(run);
-    let mut at: usize = 0;
+    let mut rest = trace;
     let mut place = Place::First;
     loop {
-        at += hasten(run, &trace[at..], place);
-        let Some(gone) = one_record(run, &trace[at..], place)? else {
+        let hasty = hasten(run, rest, place);
+        rest = &rest[hasty..];
+        let Some(gone) = one_record(run, rest, place)? else {
             return at_end(place);
         };
-        at += gone.used;
+        rest = &rest[gone.used..];
         place = gone.place;
     }
 }

@@ -1,12 +1,11 @@
--- `hasten_all` takes them one after the other.
+-- `hasten_all` goes over the records that are accepted: what is taken of all the bytes is what was taken so far, and what is taken of those that are left.
 -- Assumes nothing.
-use Prim.Native.Nat.{◌-◌}
 use lib.ListN.{length}
 use Rattle.trace.proofs.Hastening.{Hastened}
 use Rattle.trace.proofs.hasten_all.Given as goal
 
-abbrev pub invariant-loop-at : goal.invariant-loop-at
-invariant-loop-at l = Hastened l.initial.run l.bytes l.run l.at
+abbrev pub invariant-loop-rest : goal.invariant-loop-rest
+invariant-loop-rest l = Hastened l.initial.run l.bytes l.run l.rest
 
-abbrev pub decreases-loop-at : goal.decreases-loop-at
-decreases-loop-at l = length l.bytes - l.at
+abbrev pub decreases-loop-rest : goal.decreases-loop-rest
+decreases-loop-rest l = length l.rest
