@@ -55,6 +55,7 @@ pub(crate) const COUNTS: usize = 10;
 pub(crate) const CARRIED: usize = 3;
 
 // A word of the head.
+#[tactic(auto, unfolding(words::specs::Layout::get))]
 pub(crate) fn head(run: &[u32; RUN], k: usize) -> u32
     requires { k < Layout.heads }
     ensures { result ≡ get run.now (Head k) }
@@ -62,6 +63,7 @@ pub(crate) fn head(run: &[u32; RUN], k: usize) -> u32
     run[k]
 }
 
+#[tactic(auto, unfolding(words::specs::Layout::put))]
 pub(crate) fn set_head(run: &mut [u32; RUN], k: usize, x: u32)
     requires { k < Layout.heads }
     ensures { run.new ≡ put run.old (Head k) x }
@@ -70,6 +72,7 @@ pub(crate) fn set_head(run: &mut [u32; RUN], k: usize, x: u32)
 }
 
 // A word of the line of process p.
+#[tactic(auto, unfolding(words::specs::Layout::get))]
 pub(crate) fn line(run: &[u32; RUN], p: u32, k: usize) -> u32
     requires { k < Layout.line }
     ensures { result ≡ get run.now (Line p k) }
@@ -77,6 +80,7 @@ pub(crate) fn line(run: &[u32; RUN], p: u32, k: usize) -> u32
     run[HEADS + p as usize % LINES * LINE + k]
 }
 
+#[tactic(auto, unfolding(words::specs::Layout::put))]
 pub(crate) fn set_line(run: &mut [u32; RUN], p: u32, k: usize, x: u32)
     requires { k < Layout.line }
     ensures { run.new ≡ put run.old (Line p k) x }
@@ -85,12 +89,14 @@ pub(crate) fn set_line(run: &mut [u32; RUN], p: u32, k: usize, x: u32)
 }
 
 // The senders whose message to p for round r is in transit.
+#[tactic(auto, unfolding(words::specs::Layout::get))]
 pub(crate) fn transit(run: &[u32; RUN], p: u32, r: u32) -> u32
     ensures { result ≡ get run.now (Transit p r) }
 {
     run[TRANSIT + (p as usize % LINES * SLOTS + r as usize % SLOTS)]
 }
 
+#[tactic(auto, unfolding(words::specs::Layout::put))]
 pub(crate) fn set_transit(run: &mut [u32; RUN], p: u32, r: u32, x: u32)
     ensures { run.new ≡ put run.old (Transit p r) x }
 {
@@ -98,6 +104,7 @@ pub(crate) fn set_transit(run: &mut [u32; RUN], p: u32, r: u32, x: u32)
 }
 
 // A word of the message from q to p for round r.
+#[tactic(auto, unfolding(words::specs::Layout::get))]
 pub(crate) fn letter(run: &[u32; RUN], p: u32, r: u32, q: u32, k: usize) -> u32
     requires { k < Layout.letter }
     ensures { result ≡ get run.now (Mail p r q k) }
@@ -106,6 +113,7 @@ pub(crate) fn letter(run: &[u32; RUN], p: u32, r: u32, q: u32, k: usize) -> u32
     run[MAIL + (slot * LINES + q as usize % LINES) * LETTER + k]
 }
 
+#[tactic(auto, unfolding(words::specs::Layout::put))]
 pub(crate) fn set_letter(run: &mut [u32; RUN], p: u32, r: u32, q: u32, k: usize, x: u32)
     requires { k < Layout.letter }
     ensures { run.new ≡ put run.old (Mail p r q k) x }

@@ -38,6 +38,7 @@ pub fn clear(run: &mut [u32; RUN])
 }
 
 // Process p is there, with its value.
+#[tactic(auto, using(crate::proofs::Rooms::with_room_lem), unfolding(words::specs::Calls::placed))]
 fn place(run: &mut [u32; RUN], p: u32, value: u32)
     requires { p < most_processes }
     ensures { run.new ≡ Calls.placed run.old p value }

@@ -38,6 +38,7 @@ fn judge_receive(run: &[u32; RUN], p: u32, q: u32) -> Verdict
 }
 
 // The message of q to p is heard.
+#[tactic(auto, using(crate::proofs::Rooms::with_room_lem), unfolding(words::specs::Calls::taken))]
 fn take(run: &mut [u32; RUN], p: u32, q: u32)
     requires { q < most_processes }
     ensures { run.new ≡ Calls.taken run.old p q }
@@ -50,6 +51,7 @@ fn take(run: &mut [u32; RUN], p: u32, q: u32)
 }
 
 // An accepted receive.
+#[tactic(auto, unfolding(words::specs::Calls::received))]
 fn carry_receive(run: &mut [u32; RUN], p: u32, q: u32)
     requires { q < most_processes }
     ensures { run.new ≡ Calls.received run.old p q }

@@ -67,6 +67,7 @@ fn judge_send(run: &[u32; RUN], p: u32, q: u32) -> Verdict
 }
 
 // q joins the set that p has sent to.
+#[tactic(auto, using(crate::proofs::Rooms::with_room_lem), unfolding(words::specs::Calls::marked))]
 fn mark(run: &mut [u32; RUN], p: u32, q: u32)
     requires { q < most_processes }
     ensures { run.new ≡ Calls.marked run.old p q }
@@ -76,6 +77,7 @@ fn mark(run: &mut [u32; RUN], p: u32, q: u32)
 }
 
 // The message of p to q is in transit, with what p has.
+#[tactic(auto, using(crate::proofs::Rooms::with_room_lem), unfolding(words::specs::Calls::posted))]
 fn post(run: &mut [u32; RUN], p: u32, q: u32)
     requires { p < most_processes }
     ensures { run.new ≡ Calls.posted run.old p q }
@@ -94,6 +96,7 @@ fn post(run: &mut [u32; RUN], p: u32, q: u32)
 }
 
 // A message that is kept is put in transit.
+#[tactic(auto, unfolding(words::specs::Calls::delivered))]
 fn deliver(run: &mut [u32; RUN], f: Fate, p: u32, q: u32)
     requires { p < most_processes }
     ensures { run.new ≡ Calls.delivered f run.old p q }
@@ -108,6 +111,7 @@ fn deliver(run: &mut [u32; RUN], f: Fate, p: u32, q: u32)
 }
 
 // An accepted send.
+#[tactic(auto, unfolding(words::specs::Calls::sent))]
 pub(crate) fn carry_send(run: &mut [u32; RUN], p: u32, q: u32)
     requires { (p < most_processes) × (q < most_processes) }
     ensures { run.new ≡ Calls.sent run.old p q }

@@ -28,6 +28,7 @@ pub(crate) fn settle(run: &mut [u32; RUN], p: u32)
 }
 
 // An event of p is accepted: before anything else of p changes it is counted, at the stage that p is at until now.
+#[tactic(auto, unfolding(words::specs::Calls::begun))]
 pub(crate) fn begin_event(run: &mut [u32; RUN], p: u32)
     ensures { run.new ≡ Calls.begun run.old p }
 {

@@ -1,6 +1,5 @@
 // What the words spell: the number of processes, what a process holds, what a message says, the stage that a process is at.
 ghost use Rattle.std.specs.Prelude.{◌≡◌, ◌<◌, ◌≤◌};
-ghost use Rattle.sets.specs.Sets as Sets;
 ghost use Rattle.rounds.specs.Limits.{most_processes};
 ghost use Rattle.rounds.specs.Stages as Stages;
 ghost use Rattle.words.specs.Spelled as Spelled;
@@ -12,6 +11,7 @@ use rounds::Stage;
 use voting::{Choice, Holding, Message};
 
 // The number of processes; a memory that says more than the most has none.
+#[tactic(auto, using(std::proofs::lemmas::Bool::Decides::nat_tests), unfolding(words::specs::Spelled::people))]
 pub(crate) fn people(run: &[u32; RUN]) -> u32
     ensures { (result ≡ Spelled.people run.now) × (result ≤ most_processes) }
 {
@@ -74,14 +74,6 @@ pub(crate) fn message(run: &[u32; RUN], p: u32, r: u32, q: u32) -> Message
     Message { value, vote }
 }
 
-// The set of all n processes.
-pub(crate) fn everyone(n: u32) -> u32
-    requires { n ≤ most_processes }
-    ensures { result ≡ Sets.full n }
-{
-    sets::full(n)
-}
-
 // The place of a stage among the counts, in the order S, C, P, I.
 pub(crate) fn index(s: Stage) -> usize
     ensures { (result ≡ Stages.index s) × (result < 4) }
@@ -90,11 +82,11 @@ pub(crate) fn index(s: Stage) -> usize
 }
 
 // The stage that p is at.
-#[tactic(auto, using(std::proofs::lemmas::Bool::Decides::nat_tests), unfolding(words::specs::Spelled::control_of, words::specs::Spelled::site_of, rounds::specs::Stages::stage, rounds::specs::Stages::sent_to_all, rounds::specs::Stages::waited, rounds::specs::Stages::heard_from_all))]
+#[tactic(auto, using(std::proofs::lemmas::Bool::Decides::nat_tests, crate::proofs::Rooms::full_room_lem), unfolding(words::specs::Spelled::control_of, words::specs::Spelled::site_of, rounds::specs::Stages::stage, rounds::specs::Stages::sent_to_all, rounds::specs::Stages::waited, rounds::specs::Stages::heard_from_all))]
 pub(crate) fn stage(run: &[u32; RUN], p: u32) -> Stage
     ensures { result ≡ Stages.stage (control_of run.now) p }
 {
-    let all = everyone(people(run));
+    let all = sets::full(people(run));
     if line(run, p, SENT) != all {
         return Stage::Sending;
     }

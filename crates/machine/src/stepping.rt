@@ -26,37 +26,27 @@ struct Gathered {
     reach: u32,
 }
 
-// What p has heard from the processes below q, and what it has heard from q.
-fn hear(run: &[u32; RUN], p: u32, q: u32, g: Gathered) -> Gathered
-    requires { (g.tally ≡ Tallies.tally (messages_below q run.now p)) × (g.reach ≡ reach_below q run.now p) }
-    ensures { (result.tally ≡ Tallies.tally (messages_below (suc q) run.now p)) × (result.reach ≡ reach_below (suc q) run.now p) }
-{
-    if sets::has(line(run, p, HEARD), q) {
-        let r = line(run, p, ROUND);
-        let t = g.tally;
-        let tally = voting::hear(t, message(run, p, r, q));
-        let reach = sets::union(g.reach, letter(run, p, r, q, CARRIED));
-        return Gathered { tally, reach };
-    }
-    g
-}
-
 // What p has heard from the processes below n: every place is tested.
 #[tactic(auto, using(crate::proofs::Heard::tally_none, crate::proofs::Heard::reach_none))]
 fn listen(run: &[u32; RUN], p: u32, n: u32) -> Gathered
     ensures { (result.tally ≡ Tallies.tally (messages_below n run.now p)) × (result.reach ≡ reach_below n run.now p) }
 {
+    let r = line(run, p, ROUND);
     let mut g = Gathered {
         tally: voting::silence(),
         reach: line(run, p, REACH),
     };
     for q in 0..n {
-        g = hear(run, p, q, g);
+        if sets::has(line(run, p, HEARD), q) {
+            g.tally = voting::hear(g.tally, message(run, p, r, q));
+            g.reach = sets::union(g.reach, letter(run, p, r, q, CARRIED));
+        }
     }
     g
 }
 
 // p holds this from now on.
+#[tactic(auto, unfolding(words::specs::Calls::held))]
 fn hold(run: &mut [u32; RUN], p: u32, h: Holding)
     ensures { run.new ≡ Calls.held run.old p h }
 {
@@ -92,7 +82,7 @@ fn judge_step(run: &[u32; RUN], p: u32) -> Verdict
     if MOST_EVENTS <= head(run, EVENTS) {
         return Verdict::TooManyEvents;
     }
-    if line(run, p, SENT) != everyone(n) {
+    if line(run, p, SENT) != sets::full(n) {
         return Verdict::NotSentToAll;
     }
     if line(run, p, ROUND) == LAST_ROUND {
@@ -102,6 +92,7 @@ fn judge_step(run: &[u32; RUN], p: u32) -> Verdict
 }
 
 // An accepted step.
+#[tactic(auto, unfolding(words::specs::Calls::stepped))]
 fn carry_step(run: &mut [u32; RUN], p: u32)
     ensures { run.new ≡ Calls.stepped run.old p }
 {
