@@ -21,6 +21,7 @@ pub fn size(run: &[u32; RUN]) -> u32
 }
 
 // The accepted events.
+#[tactic(auto, using(words::proofs::Meaning::events_meant), unfolding(words::specs::Spelled::control_of))]
 pub fn events(run: &[u32; RUN]) -> u32
     ensures exact { EventsRead run.now result }
     ensures meaning { (c : Config) → Shows run.now c → result ≡ c.control.events }

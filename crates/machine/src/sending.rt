@@ -19,6 +19,7 @@ use rounds::Verdict;
 use words::Fate;
 
 // What becomes of a message of a sender at round r to a receiver at round s: the lead is a signed number.
+#[tactic(auto, using(std::proofs::lemmas::Bool::Decides::nat_tests, std::proofs::lemmas::Int::ints), unfolding(words::specs::Calls::fate, rounds::specs::Events::timely, rounds::specs::Verdicts::ahead))]
 fn fate(r: u32, s: u32) -> Fate
     ensures { result ≡ Calls.fate r s }
 {
