@@ -44,9 +44,9 @@ fn place(run: &mut [u32; RUN], p: u32, value: u32)
     ensures { run.new ≡ Calls.placed run.old p value }
 {
     let own = sets::with(0, p);
-    set_line(&mut *run, p, VALUE, value);
-    set_line(&mut *run, p, ROUND, 1);
-    set_line(&mut *run, p, REACH, own);
+    set_line(run, p, VALUE, value);
+    set_line(run, p, ROUND, 1);
+    set_line(run, p, REACH, own);
 }
 
 // A process for each of the values.

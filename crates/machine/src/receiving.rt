@@ -43,11 +43,11 @@ fn take(run: &mut [u32; RUN], p: u32, q: u32)
     requires { q < most_processes }
     ensures { run.new ≡ Calls.taken run.old p q }
 {
-    let r = line(&*run, p, ROUND);
-    let senders = sets::without(transit(&*run, p, r), q);
-    let heard = sets::with(line(&*run, p, HEARD), q);
-    set_transit(&mut *run, p, r, senders);
-    set_line(&mut *run, p, HEARD, heard);
+    let r = line(run, p, ROUND);
+    let senders = sets::without(transit(run, p, r), q);
+    let heard = sets::with(line(run, p, HEARD), q);
+    set_transit(run, p, r, senders);
+    set_line(run, p, HEARD, heard);
 }
 
 // An accepted receive.
@@ -56,8 +56,8 @@ fn carry_receive(run: &mut [u32; RUN], p: u32, q: u32)
     requires { q < most_processes }
     ensures { run.new ≡ Calls.received run.old p q }
 {
-    begin_event(&mut *run, p);
-    take(&mut *run, p, q);
+    begin_event(run, p);
+    take(run, p, q);
 }
 
 // Process p receives from q.

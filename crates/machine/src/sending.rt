@@ -73,8 +73,8 @@ fn mark(run: &mut [u32; RUN], p: u32, q: u32)
     requires { q < most_processes }
     ensures { run.new ≡ Calls.marked run.old p q }
 {
-    let sent = sets::with(line(&*run, p, SENT), q);
-    set_line(&mut *run, p, SENT, sent);
+    let sent = sets::with(line(run, p, SENT), q);
+    set_line(run, p, SENT, sent);
 }
 
 // The message of p to q is in transit, with what p has.
@@ -83,45 +83,33 @@ fn post(run: &mut [u32; RUN], p: u32, q: u32)
     requires { p < most_processes }
     ensures { run.new ≡ Calls.posted run.old p q }
 {
-    let r = line(&*run, p, ROUND);
-    let value = line(&*run, p, VALUE);
-    let voted = line(&*run, p, VOTED);
-    let vote = line(&*run, p, VOTE);
-    let reach = line(&*run, p, REACH);
-    let senders = sets::with(transit(&*run, q, r), p);
-    set_transit(&mut *run, q, r, senders);
-    set_letter(&mut *run, q, r, p, VALUE, value);
-    set_letter(&mut *run, q, r, p, VOTED, voted);
-    set_letter(&mut *run, q, r, p, VOTE, vote);
-    set_letter(&mut *run, q, r, p, CARRIED, reach);
+    let r = line(run, p, ROUND);
+    let value = line(run, p, VALUE);
+    let voted = line(run, p, VOTED);
+    let vote = line(run, p, VOTE);
+    let reach = line(run, p, REACH);
+    let senders = sets::with(transit(run, q, r), p);
+    set_transit(run, q, r, senders);
+    set_letter(run, q, r, p, VALUE, value);
+    set_letter(run, q, r, p, VOTED, voted);
+    set_letter(run, q, r, p, VOTE, vote);
+    set_letter(run, q, r, p, CARRIED, reach);
 }
 
-// A message that is kept is put in transit.
-#[tactic(auto, unfolding(words::specs::Calls::delivered))]
-fn deliver(run: &mut [u32; RUN], f: Fate, p: u32, q: u32)
-    requires { p < most_processes }
-    ensures { run.new ≡ Calls.delivered f run.old p q }
-{
-    match f {
-        Fate::Discarded => {}
-        Fate::Kept => {
-            post(&mut *run, p, q);
-        }
-        Fate::Refused => {}
-    }
-}
-
-// An accepted send.
-#[tactic(auto, unfolding(words::specs::Calls::sent))]
+// An accepted send: a message that is kept is put in transit.
+#[tactic(auto, unfolding(words::specs::Calls::sent, words::specs::Calls::delivered))]
 pub(crate) fn carry_send(run: &mut [u32; RUN], p: u32, q: u32)
     requires { (p < most_processes) × (q < most_processes) }
     ensures { run.new ≡ Calls.sent run.old p q }
 {
-    let f = fate(line(&*run, p, ROUND), line(&*run, q, ROUND));
-    begin_event(&mut *run, p);
-    settle(&mut *run, q);
-    mark(&mut *run, p, q);
-    deliver(&mut *run, f, p, q);
+    let f = fate(line(run, p, ROUND), line(run, q, ROUND));
+    begin_event(run, p);
+    settle(run, q);
+    mark(run, p, q);
+    match f {
+        Fate::Kept => post(run, p, q),
+        Fate::Discarded | Fate::Refused => {}
+    }
 }
 
 // Process p sends to q.

@@ -52,11 +52,11 @@ fn hold(run: &mut [u32; RUN], p: u32, h: Holding)
 {
     let vote = h.vote;
     let decision = h.decision;
-    set_line(&mut *run, p, VALUE, h.value);
-    set_line(&mut *run, p, VOTED, flag_of(vote));
-    set_line(&mut *run, p, VOTE, word_of(vote));
-    set_line(&mut *run, p, DECIDED, flag_of(decision));
-    set_line(&mut *run, p, DECISION, word_of(decision));
+    set_line(run, p, VALUE, h.value);
+    set_line(run, p, VOTED, flag_of(vote));
+    set_line(run, p, VOTE, word_of(vote));
+    set_line(run, p, DECIDED, flag_of(decision));
+    set_line(run, p, DECISION, word_of(decision));
 }
 
 // p goes on from round r to the next.
@@ -64,11 +64,11 @@ fn hold(run: &mut [u32; RUN], p: u32, h: Holding)
 fn advance(run: &mut [u32; RUN], p: u32, r: u32, reach: u32)
     ensures { run.new ≡ Calls.advanced run.old p r reach }
 {
-    set_transit(&mut *run, p, r, 0);
-    set_line(&mut *run, p, ROUND, r.wrapping_add(1));
-    set_line(&mut *run, p, SENT, 0);
-    set_line(&mut *run, p, HEARD, 0);
-    set_line(&mut *run, p, REACH, reach);
+    set_transit(run, p, r, 0);
+    set_line(run, p, ROUND, r.wrapping_add(1));
+    set_line(run, p, SENT, 0);
+    set_line(run, p, HEARD, 0);
+    set_line(run, p, REACH, reach);
 }
 
 // The tests of a step, in document 01's order.
@@ -96,13 +96,13 @@ fn judge_step(run: &[u32; RUN], p: u32) -> Verdict
 fn carry_step(run: &mut [u32; RUN], p: u32)
     ensures { run.new ≡ Calls.stepped run.old p }
 {
-    let r = line(&*run, p, ROUND);
-    let g = listen(&*run, p, people(&*run));
+    let r = line(run, p, ROUND);
+    let g = listen(run, p, people(run));
     let t = g.tally;
-    let next = voting::rule(r, holding(&*run, p), t);
-    begin_event(&mut *run, p);
-    hold(&mut *run, p, next);
-    advance(&mut *run, p, r, g.reach);
+    let next = voting::rule(r, holding(run, p), t);
+    begin_event(run, p);
+    hold(run, p, next);
+    advance(run, p, r, g.reach);
 }
 
 // Process p steps to its next round.
