@@ -1,4 +1,6 @@
 // The words of the lent memory: where each stands, and how one is read and written. No other file knows a place by its number.
+#![tactic(auto, unfolding(words::specs::Layout::get, words::specs::Layout::put))]
+
 ghost use Rattle.std.specs.Prelude.{◌≡◌, ◌<◌};
 ghost use Rattle.words.specs.Layout as Layout;
 ghost use Rattle.words.specs.Layout.{get, put, Head, Line, Transit, Mail};
@@ -54,8 +56,10 @@ pub(crate) const COUNTS: usize = 10;
 // The words of a letter: VALUE, VOTED and VOTE as in a line, and the reach that it carries.
 pub(crate) const CARRIED: usize = 3;
 
+// Four functions read a word and four write one: each takes other numbers, and none differs from another in a type, a size or a constant.
+// A word's number within its part is one of the constants above, or a count's, wherever it is given, so that the check finds what is asked of it.
+
 // A word of the head.
-#[tactic(auto, unfolding(words::specs::Layout::get))]
 pub(crate) fn head(run: &[u32; RUN], k: usize) -> u32
     requires { k < Layout.heads }
     ensures { result ≡ get run.now (Head k) }
@@ -63,7 +67,6 @@ pub(crate) fn head(run: &[u32; RUN], k: usize) -> u32
     run[k]
 }
 
-#[tactic(auto, unfolding(words::specs::Layout::put))]
 pub(crate) fn set_head(run: &mut [u32; RUN], k: usize, x: u32)
     requires { k < Layout.heads }
     ensures { run.new ≡ put run.old (Head k) x }
@@ -72,7 +75,6 @@ pub(crate) fn set_head(run: &mut [u32; RUN], k: usize, x: u32)
 }
 
 // A word of the line of process p.
-#[tactic(auto, unfolding(words::specs::Layout::get))]
 pub(crate) fn line(run: &[u32; RUN], p: u32, k: usize) -> u32
     requires { k < Layout.line }
     ensures { result ≡ get run.now (Line p k) }
@@ -80,7 +82,6 @@ pub(crate) fn line(run: &[u32; RUN], p: u32, k: usize) -> u32
     run[HEADS + p as usize % LINES * LINE + k]
 }
 
-#[tactic(auto, unfolding(words::specs::Layout::put))]
 pub(crate) fn set_line(run: &mut [u32; RUN], p: u32, k: usize, x: u32)
     requires { k < Layout.line }
     ensures { run.new ≡ put run.old (Line p k) x }
@@ -89,14 +90,12 @@ pub(crate) fn set_line(run: &mut [u32; RUN], p: u32, k: usize, x: u32)
 }
 
 // The senders whose message to p for round r is in transit.
-#[tactic(auto, unfolding(words::specs::Layout::get))]
 pub(crate) fn transit(run: &[u32; RUN], p: u32, r: u32) -> u32
     ensures { result ≡ get run.now (Transit p r) }
 {
     run[TRANSIT + (p as usize % LINES * SLOTS + r as usize % SLOTS)]
 }
 
-#[tactic(auto, unfolding(words::specs::Layout::put))]
 pub(crate) fn set_transit(run: &mut [u32; RUN], p: u32, r: u32, x: u32)
     ensures { run.new ≡ put run.old (Transit p r) x }
 {
@@ -104,7 +103,6 @@ pub(crate) fn set_transit(run: &mut [u32; RUN], p: u32, r: u32, x: u32)
 }
 
 // A word of the message from q to p for round r.
-#[tactic(auto, unfolding(words::specs::Layout::get))]
 pub(crate) fn letter(run: &[u32; RUN], p: u32, r: u32, q: u32, k: usize) -> u32
     requires { k < Layout.letter }
     ensures { result ≡ get run.now (Mail p r q k) }
@@ -113,7 +111,6 @@ pub(crate) fn letter(run: &[u32; RUN], p: u32, r: u32, q: u32, k: usize) -> u32
     run[MAIL + (slot * LINES + q as usize % LINES) * LETTER + k]
 }
 
-#[tactic(auto, unfolding(words::specs::Layout::put))]
 pub(crate) fn set_letter(run: &mut [u32; RUN], p: u32, r: u32, q: u32, k: usize, x: u32)
     requires { k < Layout.letter }
     ensures { run.new ≡ put run.old (Mail p r q k) x }

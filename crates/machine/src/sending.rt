@@ -106,9 +106,8 @@ pub(crate) fn carry_send(run: &mut [u32; RUN], p: u32, q: u32)
     begin_event(run, p);
     settle(run, q);
     mark(run, p, q);
-    match f {
-        Fate::Kept => post(run, p, q),
-        Fate::Discarded | Fate::Refused => {}
+    if let Fate::Kept = f {
+        post(run, p, q);
     }
 }
 

@@ -1,5 +1,5 @@
 // A step: its verdict, what was heard, and what an accepted step does.
-ghost use Rattle.std.specs.Prelude.{◌≡◌, suc};
+ghost use Rattle.std.specs.Prelude.{◌≡◌};
 ghost use Rattle.voting.specs.Tally as Tallies;
 ghost use Rattle.rounds.specs.declared.Event.TheVariants.{Step};
 ghost use Rattle.rounds.specs.Config.{Config};
@@ -50,13 +50,11 @@ fn listen(run: &[u32; RUN], p: u32, n: u32) -> Gathered
 fn hold(run: &mut [u32; RUN], p: u32, h: Holding)
     ensures { run.new ≡ Calls.held run.old p h }
 {
-    let vote = h.vote;
-    let decision = h.decision;
     set_line(run, p, VALUE, h.value);
-    set_line(run, p, VOTED, flag_of(vote));
-    set_line(run, p, VOTE, word_of(vote));
-    set_line(run, p, DECIDED, flag_of(decision));
-    set_line(run, p, DECISION, word_of(decision));
+    set_line(run, p, VOTED, flag_of(h.vote));
+    set_line(run, p, VOTE, word_of(h.vote));
+    set_line(run, p, DECIDED, flag_of(h.decision));
+    set_line(run, p, DECISION, word_of(h.decision));
 }
 
 // p goes on from round r to the next.
@@ -98,8 +96,7 @@ fn carry_step(run: &mut [u32; RUN], p: u32)
 {
     let r = line(run, p, ROUND);
     let g = listen(run, p, people(run));
-    let t = g.tally;
-    let next = voting::rule(r, holding(run, p), t);
+    let next = voting::rule(r, holding(run, p), g.tally);
     begin_event(run, p);
     hold(run, p, next);
     advance(run, p, r, g.reach);

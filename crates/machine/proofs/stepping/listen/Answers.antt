@@ -17,13 +17,13 @@ loop-q-preserved c =
     let q = c.loop-q.q in
     let before = c.loop-q.invariant in
     elim c.if-has.branch [
-      then-has w ↦
-        let heard = told q c.line-in-loop-q.ensures c.has.ensures w.if-has.true in
-        rw (w.g-is, add-one q) (
-          rw (tally_heard _ _ _ heard, ← before.0, w.hear-g.ensures.exact, w.message.ensures, c.line-r.ensures),
-          rw (reach_heard _ _ _ heard, ← before.1, w.union.ensures, w.letter.ensures, c.line-r.ensures),
-        )
-    | else-has w ↦
-        let unheard = told q c.line-in-loop-q.ensures c.has.ensures w.if-has.false in
-        rw (w.g-is, add-one q) (before.0 ∙ sym (tally_unheard _ _ _ unheard), before.1 ∙ sym (reach_unheard _ _ _ unheard))
+      | then-has w ↦
+          let heard = told q c.line-in-loop-q.ensures c.has.ensures w.if-has.true in
+          rw (w.g-is, add-one q) (
+            rw (tally_heard _ _ _ heard, ← before.0, w.hear-g.ensures.exact, w.message.ensures, c.line-r.ensures),
+            rw (reach_heard _ _ _ heard, ← before.1, w.union.ensures, w.letter.ensures, c.line-r.ensures),
+          )
+      | else-has w ↦
+          let unheard = told q c.line-in-loop-q.ensures c.has.ensures w.if-has.false in
+          rw (w.g-is, add-one q) (before.0 ∙ sym (tally_unheard _ _ _ unheard), before.1 ∙ sym (reach_unheard _ _ _ unheard))
     ]
