@@ -31,6 +31,7 @@ pub use stepping::step;
 use words::Answer;
 
 // Whether a verdict accepts.
+#[tactic(auto, unfolding(rounds::specs::Verdicts::accepted))]
 pub(crate) fn accepted(v: Verdict) -> bool
     ensures { result ≡ Verdicts.accepted v }
 {

@@ -14,6 +14,7 @@ use crate::limits::*;
 use rounds::Verdict;
 
 // The tests of an opening, in document 01's order.
+#[tactic(auto, using(std::proofs::lemmas::Bool::Decides::nat_tests), unfolding(rounds::specs::Verdicts::open_verdict, rounds::specs::Verdicts::refuse))]
 fn judge_opening(n: u32, given: usize) -> Verdict
     ensures { result ≡ open_verdict n given }
 {

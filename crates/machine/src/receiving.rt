@@ -18,6 +18,7 @@ use crate::spelled::*;
 use rounds::Verdict;
 
 // The tests of a receive, in document 01's order.
+#[tactic(auto, using(std::proofs::lemmas::Bool::Decides::nat_tests), unfolding(rounds::specs::Verdicts::verdict, rounds::specs::Verdicts::outside, rounds::specs::Verdicts::crowded, rounds::specs::Verdicts::refuse, words::specs::Spelled::control_of, rounds::specs::Verdicts::receive_verdict, words::specs::Spelled::site_of))]
 fn judge_receive(run: &[u32; RUN], p: u32, q: u32) -> Verdict
     ensures { result ≡ verdict (control_of run.now) (Receive p q) }
 {

@@ -37,6 +37,7 @@ fn fate(r: u32, s: u32) -> Fate
 }
 
 // The verdict on a send by its target alone.
+#[tactic(auto, using(std::proofs::lemmas::Bool::Decides::nat_tests), unfolding(rounds::specs::Verdicts::send_verdict, rounds::specs::Verdicts::refuse, rounds::specs::Verdicts::ahead, rounds::specs::Events::timely, words::specs::Calls::fate, words::specs::Spelled::control_of, words::specs::Spelled::site_of))]
 pub(crate) fn judge_target(run: &[u32; RUN], p: u32, q: u32) -> Verdict
     ensures { result ≡ send_verdict (control_of run.now) p q }
 {
@@ -51,6 +52,7 @@ pub(crate) fn judge_target(run: &[u32; RUN], p: u32, q: u32) -> Verdict
 }
 
 // The tests of a send, in document 01's order.
+#[tactic(auto, using(std::proofs::lemmas::Bool::Decides::nat_tests), unfolding(rounds::specs::Verdicts::verdict, rounds::specs::Verdicts::outside, rounds::specs::Verdicts::crowded, rounds::specs::Verdicts::refuse, words::specs::Spelled::control_of))]
 fn judge_send(run: &[u32; RUN], p: u32, q: u32) -> Verdict
     ensures { result ≡ verdict (control_of run.now) (Send p q) }
 {

@@ -23,6 +23,7 @@ pub(crate) fn people(run: &[u32; RUN]) -> u32
 }
 
 // A choice stands in two words: whether it is present, and what it is.
+#[tactic(auto, using(std::proofs::lemmas::Bool::Decides::nat_tests), unfolding(words::specs::Spelled::choice))]
 fn choice(flag: u32, x: u32) -> Choice
     ensures { result ≡ Spelled.choice flag x }
 {
@@ -33,6 +34,7 @@ fn choice(flag: u32, x: u32) -> Choice
     }
 }
 
+#[tactic(auto, unfolding(words::specs::Spelled::flag_of))]
 pub(crate) fn flag_of(c: Choice) -> u32
     ensures { result ≡ flag_of c }
 {
@@ -42,6 +44,7 @@ pub(crate) fn flag_of(c: Choice) -> u32
     }
 }
 
+#[tactic(auto, unfolding(words::specs::Spelled::word_of))]
 pub(crate) fn word_of(c: Choice) -> u32
     ensures { result ≡ word_of c }
 {
@@ -52,6 +55,7 @@ pub(crate) fn word_of(c: Choice) -> u32
 }
 
 // What process p holds.
+#[tactic(auto, unfolding(words::specs::Spelled::holding_of))]
 pub(crate) fn holding(run: &[u32; RUN], p: u32) -> Holding
     ensures { result ≡ holding_of run.now p }
 {
@@ -66,6 +70,7 @@ pub(crate) fn holding(run: &[u32; RUN], p: u32) -> Holding
 }
 
 // What the message from q to p for round r says.
+#[tactic(auto, unfolding(words::specs::Spelled::message_of))]
 pub(crate) fn message(run: &[u32; RUN], p: u32, r: u32, q: u32) -> Message
     ensures { result ≡ message_of run.now p r q }
 {

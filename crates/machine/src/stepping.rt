@@ -70,6 +70,7 @@ fn advance(run: &mut [u32; RUN], p: u32, r: u32, reach: u32)
 }
 
 // The tests of a step, in document 01's order.
+#[tactic(auto, using(std::proofs::lemmas::Bool::Decides::nat_tests, crate::proofs::Rooms::full_room_lem), unfolding(rounds::specs::Verdicts::verdict, rounds::specs::Verdicts::outside, rounds::specs::Verdicts::crowded, rounds::specs::Verdicts::refuse, words::specs::Spelled::control_of, rounds::specs::Verdicts::step_verdict, rounds::specs::Stages::sent_to_all, words::specs::Spelled::site_of))]
 fn judge_step(run: &[u32; RUN], p: u32) -> Verdict
     ensures { result ≡ verdict (control_of run.now) (Step p) }
 {
