@@ -1,5 +1,4 @@
 -- The laws that the proofs of the functions share.
 pub mod Rooms
-pub mod Lead
 pub mod Told
 pub mod Heard

@@ -56,42 +56,6 @@ opening_told n given e =
     let most = o.most in
     omega arith
 
--- what a test of numbers says, either way
-pub ruleset tests = (lt-leb, le-leb, lt-ltb, le-ltb, eq-eqb, ne_eqb)
-
--- ---- a send is refused for its lead exactly where its fate is so
-refused : Fate → Bool
-refused Discarded = false
-refused Kept = false
-refused Refused = true
-
-ahead_fate : (r s : ℕ) → ahead r s ≡ refused (fate r s)
-unfolding fate timely ahead refused
-ahead_fate r s = go (leb s r) (ltb r (s + window)) (eqb r (s + window)) refl refl
-  where
-    go : (l t a : Bool) → ltb r (s + window) ≡ t → eqb r (s + window) ≡ a → a ≡ refused (cond (l && t) Kept (cond a Refused Discarded))
-    go true true true h k = absurd (let x = ltb-true r (s + window) h in let y = eqb-true r (s + window) k in omega arith)
-    go true true false h k = refl
-    go true false true h k = refl
-    go true false false h k = refl
-    go false t true h k = refl
-    go false t false h k = refl
-
-module _ (r s : ℕ) where
-  pub fate_discarded : Discarded ≡ fate r s → ahead r s ≡ false
-  unfolding refused
-  fate_discarded e = ahead_fate r s ∙ rw (← e)
-
-  pub fate_kept : Kept ≡ fate r s → ahead r s ≡ false
-  unfolding refused
-  fate_kept e = ahead_fate r s ∙ rw (← e)
-
-  pub fate_refused : Refused ≡ fate r s → ahead r s ≡ true
-  unfolding refused
-  fate_refused e = ahead_fate r s ∙ rw (← e)
-
-pub ruleset fates = (fate_discarded, fate_kept, fate_refused)
-
 -- ---- a judge's answer and what a call makes of it
 -- a refusal that `?` hands on is the refusal
 pub handed_on : {E : Type 0} {v w : Result E Refusal} {r : Refusal} → IsErrAnd v (λ e. e ≡ r) → Err r ≡ w → v ≡ w

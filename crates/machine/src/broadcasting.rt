@@ -28,7 +28,7 @@ fn judge_targets(run: &[u32; RUN], p: u32, n: u32) -> Verdict
 }
 
 // The tests of a broadcast, in document 01's order: room for all its events at once, then its targets.
-#[tactic(auto, using(crate::proofs::Told::tests), unfolding(rounds::specs::Verdicts::verdict, rounds::specs::Verdicts::outside, rounds::specs::Verdicts::crowded, rounds::specs::Verdicts::refuse, words::specs::Spelled::control_of))]
+#[tactic(auto, using(std::proofs::lemmas::Bool::Decides::nat_tests), unfolding(rounds::specs::Verdicts::verdict, rounds::specs::Verdicts::outside, rounds::specs::Verdicts::crowded, rounds::specs::Verdicts::refuse, words::specs::Spelled::control_of))]
 fn judge_broadcast(run: &[u32; RUN], p: u32) -> Verdict
     ensures { result ≡ verdict (control_of run.now) (Broadcast p) }
 {

@@ -1,4 +1,6 @@
 // The words of the lent memory: where each stands, and how one is read and written. No other file knows a place by its number.
+#![tactic(auto, unfolding(words::specs::Layout::get, words::specs::Layout::put))]
+
 ghost use Rattle.std.specs.Prelude.{◌≡◌, ◌<◌};
 ghost use Rattle.words.specs.Layout as Layout;
 ghost use Rattle.words.specs.Layout.{get, put, Head, Line, Transit, Mail};
@@ -53,6 +55,9 @@ pub(crate) const COUNTS: usize = 10;
 
 // The words of a letter: VALUE, VOTED and VOTE as in a line, and the reach that it carries.
 pub(crate) const CARRIED: usize = 3;
+
+// Four functions read a word and four write one: each takes other numbers, and none differs from another in a type, a size or a constant.
+// A word's number within its part is one of the constants above, or a count's, wherever it is given, so that the check finds what is asked of it.
 
 // A word of the head.
 pub(crate) fn head(run: &[u32; RUN], k: usize) -> u32

@@ -12,7 +12,7 @@ use crate::limits::*;
 use rounds::{Refusal, Verdict};
 
 // The tests of an opening, in document 01's order.
-#[tactic(auto, using(crate::proofs::Told::tests), unfolding(rounds::specs::Verdicts::open_verdict, rounds::specs::Verdicts::refuse))]
+#[tactic(auto, using(std::proofs::lemmas::Bool::Decides::nat_tests), unfolding(rounds::specs::Verdicts::open_verdict, rounds::specs::Verdicts::refuse))]
 fn judge_opening(n: u32, given: usize) -> Verdict
     ensures { result ≡ open_verdict n given }
 {
@@ -34,14 +34,15 @@ pub fn clear(run: &mut [u32; RUN])
 }
 
 // Process p is there, with its value.
+#[tactic(auto, using(crate::proofs::Rooms::with_room_lem), unfolding(words::specs::Calls::placed))]
 fn place(run: &mut [u32; RUN], p: u32, value: u32)
     requires { p < most_processes }
     ensures { run.new ≡ Calls.placed run.old p value }
 {
     let own = sets::with(0, p);
-    set_line(&mut *run, p, VALUE, value);
-    set_line(&mut *run, p, ROUND, 1);
-    set_line(&mut *run, p, REACH, own);
+    set_line(run, p, VALUE, value);
+    set_line(run, p, ROUND, 1);
+    set_line(run, p, REACH, own);
 }
 
 // A process for each of the values.

@@ -1,7 +1,6 @@
 // What is read of a run: its size, its accepted events, and all that is shown of a process.
 ghost use Rattle.std.specs.Prelude.{◌≡◌, ◌<◌};
 ghost use Rattle.rounds.specs.Config.{Config};
-ghost use Rattle.rounds.specs.Stages as Stages;
 ghost use Rattle.words.specs.Spelled.{word, count_of};
 ghost use Rattle.words.specs.Exact.{SizeRead, EventsRead, SiteRead};
 ghost use Rattle.words.specs.Shows.{Shows, standing};
@@ -20,6 +19,7 @@ pub fn size(run: &[u32; RUN]) -> u32
 }
 
 // The accepted events.
+#[tactic(auto, using(words::proofs::Meaning::events_meant), unfolding(words::specs::Spelled::control_of))]
 pub fn events(run: &[u32; RUN]) -> u32
     ensures exact { EventsRead run.now result }
     ensures meaning { (c : Config) → Shows run.now c → result ≡ c.control.events }
@@ -61,13 +61,11 @@ pub fn site(run: &[u32; RUN], p: u8) -> Standing
         };
     }
     let h = holding(run, i);
-    let vote = h.vote;
-    let decision = h.decision;
     Standing {
         round: line(run, i, ROUND),
         value: h.value,
-        vote,
-        decision,
+        vote: h.vote,
+        decision: h.decision,
         reach: line(run, i, REACH),
         sending: count(run, i, Stage::Sending),
         collecting: count(run, i, Stage::Collecting),

@@ -17,7 +17,7 @@ use crate::spelled::*;
 use rounds::{Refusal, Verdict};
 
 // The tests of a receive, in document 01's order.
-#[tactic(auto, using(crate::proofs::Told::tests), unfolding(rounds::specs::Verdicts::verdict, rounds::specs::Verdicts::receive_verdict, rounds::specs::Verdicts::outside, rounds::specs::Verdicts::crowded, rounds::specs::Verdicts::refuse, words::specs::Spelled::control_of, words::specs::Spelled::site_of))]
+#[tactic(auto, using(std::proofs::lemmas::Bool::Decides::nat_tests), unfolding(rounds::specs::Verdicts::verdict, rounds::specs::Verdicts::outside, rounds::specs::Verdicts::crowded, rounds::specs::Verdicts::refuse, words::specs::Spelled::control_of, rounds::specs::Verdicts::receive_verdict, words::specs::Spelled::site_of))]
 fn judge_receive(run: &[u32; RUN], p: u32, q: u32) -> Verdict
     ensures { result ≡ verdict (control_of run.now) (Receive p q) }
 {
@@ -35,24 +35,26 @@ fn judge_receive(run: &[u32; RUN], p: u32, q: u32) -> Verdict
 }
 
 // The message of q to p is heard.
+#[tactic(auto, using(crate::proofs::Rooms::with_room_lem), unfolding(words::specs::Calls::taken))]
 fn take(run: &mut [u32; RUN], p: u32, q: u32)
     requires { q < most_processes }
     ensures { run.new ≡ Calls.taken run.old p q }
 {
-    let r = line(&*run, p, ROUND);
-    let senders = sets::without(transit(&*run, p, r), q);
-    let heard = sets::with(line(&*run, p, HEARD), q);
-    set_transit(&mut *run, p, r, senders);
-    set_line(&mut *run, p, HEARD, heard);
+    let r = line(run, p, ROUND);
+    let senders = sets::without(transit(run, p, r), q);
+    let heard = sets::with(line(run, p, HEARD), q);
+    set_transit(run, p, r, senders);
+    set_line(run, p, HEARD, heard);
 }
 
 // An accepted receive.
+#[tactic(auto, unfolding(words::specs::Calls::received))]
 fn carry_receive(run: &mut [u32; RUN], p: u32, q: u32)
     requires { q < most_processes }
     ensures { run.new ≡ Calls.received run.old p q }
 {
-    begin_event(&mut *run, p);
-    take(&mut *run, p, q);
+    begin_event(run, p);
+    take(run, p, q);
 }
 
 // Process p receives from q.

@@ -18,6 +18,7 @@ use rounds::{Refusal, Verdict};
 use words::Fate;
 
 // What becomes of a message of a sender at round r to a receiver at round s: the lead is a signed number.
+#[tactic(auto, using(std::proofs::lemmas::Bool::Decides::nat_tests, std::proofs::lemmas::Int::ints), unfolding(words::specs::Calls::fate, rounds::specs::Events::timely, rounds::specs::Verdicts::ahead))]
 fn fate(r: u32, s: u32) -> Fate
     ensures { result ≡ Calls.fate r s }
 {
@@ -35,7 +36,7 @@ fn fate(r: u32, s: u32) -> Fate
 }
 
 // The verdict on a send by its target alone.
-#[tactic(auto, using(crate::proofs::Told::fates), unfolding(rounds::specs::Verdicts::send_verdict, rounds::specs::Verdicts::refuse, words::specs::Spelled::control_of, words::specs::Spelled::site_of))]
+#[tactic(auto, using(std::proofs::lemmas::Bool::Decides::nat_tests), unfolding(rounds::specs::Verdicts::send_verdict, rounds::specs::Verdicts::refuse, rounds::specs::Verdicts::ahead, rounds::specs::Events::timely, words::specs::Calls::fate, words::specs::Spelled::control_of, words::specs::Spelled::site_of))]
 pub(crate) fn judge_target(run: &[u32; RUN], p: u32, q: u32) -> Verdict
     ensures { result ≡ send_verdict (control_of run.now) p q }
 {
@@ -49,7 +50,7 @@ pub(crate) fn judge_target(run: &[u32; RUN], p: u32, q: u32) -> Verdict
 }
 
 // The tests of a send, in document 01's order.
-#[tactic(auto, using(crate::proofs::Told::tests), unfolding(rounds::specs::Verdicts::verdict, rounds::specs::Verdicts::outside, rounds::specs::Verdicts::crowded, rounds::specs::Verdicts::refuse, words::specs::Spelled::control_of))]
+#[tactic(auto, using(std::proofs::lemmas::Bool::Decides::nat_tests), unfolding(rounds::specs::Verdicts::verdict, rounds::specs::Verdicts::outside, rounds::specs::Verdicts::crowded, rounds::specs::Verdicts::refuse, words::specs::Spelled::control_of))]
 fn judge_send(run: &[u32; RUN], p: u32, q: u32) -> Verdict
     ensures { result ≡ verdict (control_of run.now) (Send p q) }
 {
@@ -64,54 +65,47 @@ fn judge_send(run: &[u32; RUN], p: u32, q: u32) -> Verdict
 }
 
 // q joins the set that p has sent to.
+#[tactic(auto, using(crate::proofs::Rooms::with_room_lem), unfolding(words::specs::Calls::marked))]
 fn mark(run: &mut [u32; RUN], p: u32, q: u32)
     requires { q < most_processes }
     ensures { run.new ≡ Calls.marked run.old p q }
 {
-    let sent = sets::with(line(&*run, p, SENT), q);
-    set_line(&mut *run, p, SENT, sent);
+    let sent = sets::with(line(run, p, SENT), q);
+    set_line(run, p, SENT, sent);
 }
 
 // The message of p to q is in transit, with what p has.
+#[tactic(auto, using(crate::proofs::Rooms::with_room_lem), unfolding(words::specs::Calls::posted))]
 fn post(run: &mut [u32; RUN], p: u32, q: u32)
     requires { p < most_processes }
     ensures { run.new ≡ Calls.posted run.old p q }
 {
-    let r = line(&*run, p, ROUND);
-    let value = line(&*run, p, VALUE);
-    let voted = line(&*run, p, VOTED);
-    let vote = line(&*run, p, VOTE);
-    let reach = line(&*run, p, REACH);
-    let senders = sets::with(transit(&*run, q, r), p);
-    set_transit(&mut *run, q, r, senders);
-    set_letter(&mut *run, q, r, p, VALUE, value);
-    set_letter(&mut *run, q, r, p, VOTED, voted);
-    set_letter(&mut *run, q, r, p, VOTE, vote);
-    set_letter(&mut *run, q, r, p, CARRIED, reach);
+    let r = line(run, p, ROUND);
+    let value = line(run, p, VALUE);
+    let voted = line(run, p, VOTED);
+    let vote = line(run, p, VOTE);
+    let reach = line(run, p, REACH);
+    let senders = sets::with(transit(run, q, r), p);
+    set_transit(run, q, r, senders);
+    set_letter(run, q, r, p, VALUE, value);
+    set_letter(run, q, r, p, VOTED, voted);
+    set_letter(run, q, r, p, VOTE, vote);
+    set_letter(run, q, r, p, CARRIED, reach);
 }
 
-// A message that is kept is put in transit.
-#[tactic(auto, unfolding(words::specs::Calls::delivered))]
-fn deliver(run: &mut [u32; RUN], f: Fate, p: u32, q: u32)
-    requires { p < most_processes }
-    ensures { run.new ≡ Calls.delivered f run.old p q }
-{
-    match f {
-        Fate::Kept => post(run, p, q),
-        Fate::Discarded | Fate::Refused => {}
-    }
-}
-
-// An accepted send.
+// An accepted send: a message that is kept is put in transit.
+#[tactic(auto, unfolding(words::specs::Calls::sent, words::specs::Calls::delivered))]
 pub(crate) fn carry_send(run: &mut [u32; RUN], p: u32, q: u32)
     requires { (p < most_processes) × (q < most_processes) }
     ensures { run.new ≡ Calls.sent run.old p q }
 {
-    let f = fate(line(&*run, p, ROUND), line(&*run, q, ROUND));
-    begin_event(&mut *run, p);
-    settle(&mut *run, q);
-    mark(&mut *run, p, q);
-    deliver(&mut *run, f, p, q);
+    let f = fate(line(run, p, ROUND), line(run, q, ROUND));
+    begin_event(run, p);
+    settle(run, q);
+    mark(run, p, q);
+    if let Fate::Kept = f {
+        post(run, p, q);
+    }
 }
 
 // Process p sends to q.

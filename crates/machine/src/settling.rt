@@ -10,8 +10,8 @@ use crate::spelled::*;
 fn count_event(run: &mut [u32; RUN])
     ensures { run.new ≡ Calls.counted run.old }
 {
-    let next = head(&*run, EVENTS).wrapping_add(1);
-    set_head(&mut *run, EVENTS, next);
+    let next = head(run, EVENTS).wrapping_add(1);
+    set_head(run, EVENTS, next);
 }
 
 // The events since p was last settled are counted at the stage that it is at.
@@ -19,18 +19,19 @@ fn count_event(run: &mut [u32; RUN])
 pub(crate) fn settle(run: &mut [u32; RUN], p: u32)
     ensures { run.new ≡ Calls.settled run.old p }
 {
-    let k = COUNTS + index(stage(&*run, p));
-    let now = head(&*run, EVENTS);
-    let waited = now.saturating_sub(line(&*run, p, SINCE));
-    let count = line(&*run, p, k).wrapping_add(waited);
-    set_line(&mut *run, p, k, count);
-    set_line(&mut *run, p, SINCE, now);
+    let k = COUNTS + index(stage(run, p));
+    let now = head(run, EVENTS);
+    let waited = now.saturating_sub(line(run, p, SINCE));
+    let count = line(run, p, k).wrapping_add(waited);
+    set_line(run, p, k, count);
+    set_line(run, p, SINCE, now);
 }
 
 // An event of p is accepted: before anything else of p changes it is counted, at the stage that p is at until now.
+#[tactic(auto, unfolding(words::specs::Calls::begun))]
 pub(crate) fn begin_event(run: &mut [u32; RUN], p: u32)
     ensures { run.new ≡ Calls.begun run.old p }
 {
-    count_event(&mut *run);
-    settle(&mut *run, p);
+    count_event(run);
+    settle(run, p);
 }

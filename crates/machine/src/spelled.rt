@@ -1,6 +1,5 @@
 // What the words spell: the number of processes, what a process holds, what a message says, the stage that a process is at.
 ghost use Rattle.std.specs.Prelude.{◌≡◌, ◌<◌, ◌≤◌};
-ghost use Rattle.sets.specs.Sets as Sets;
 ghost use Rattle.rounds.specs.Limits.{most_processes};
 ghost use Rattle.rounds.specs.Stages as Stages;
 ghost use Rattle.words.specs.Spelled as Spelled;
@@ -12,6 +11,7 @@ use rounds::Stage;
 use voting::{Holding, Message};
 
 // The number of processes; a memory that says more than the most has none.
+#[tactic(auto, using(std::proofs::lemmas::Bool::Decides::nat_tests), unfolding(words::specs::Spelled::people))]
 pub(crate) fn people(run: &[u32; RUN]) -> u32
     ensures { (result ≡ Spelled.people run.now) × (result ≤ most_processes) }
 {
@@ -23,7 +23,7 @@ pub(crate) fn people(run: &[u32; RUN]) -> u32
 }
 
 // A choice stands in two words: whether it is present, and what it is.
-#[tactic(auto, unfolding(words::specs::Spelled::choice))]
+#[tactic(auto, using(std::proofs::lemmas::Bool::Decides::nat_tests), unfolding(words::specs::Spelled::choice))]
 fn choice(flag: u32, x: u32) -> Option<u32>
     ensures { result ≡ Spelled.choice flag x }
 {
@@ -45,6 +45,7 @@ pub(crate) fn word_of(c: Option<u32>) -> u32
 }
 
 // What process p holds.
+#[tactic(auto, unfolding(words::specs::Spelled::holding_of))]
 pub(crate) fn holding(run: &[u32; RUN], p: u32) -> Holding
     ensures { result ≡ holding_of run.now p }
 {
@@ -59,20 +60,13 @@ pub(crate) fn holding(run: &[u32; RUN], p: u32) -> Holding
 }
 
 // What the message from q to p for round r says.
+#[tactic(auto, unfolding(words::specs::Spelled::message_of))]
 pub(crate) fn message(run: &[u32; RUN], p: u32, r: u32, q: u32) -> Message
     ensures { result ≡ message_of run.now p r q }
 {
     let value = letter(run, p, r, q, VALUE);
     let vote = choice(letter(run, p, r, q, VOTED), letter(run, p, r, q, VOTE));
     Message { value, vote }
-}
-
-// The set of all n processes.
-pub(crate) fn everyone(n: u32) -> u32
-    requires { n ≤ most_processes }
-    ensures { result ≡ Sets.full n }
-{
-    sets::full(n)
 }
 
 // The place of a stage among the counts, in the order S, C, P, I.
@@ -83,11 +77,11 @@ pub(crate) fn index(s: Stage) -> usize
 }
 
 // The stage that p is at.
-#[tactic(auto, using(std::proofs::lemmas::Bool::Decides::nat_tests), unfolding(words::specs::Spelled::control_of, words::specs::Spelled::site_of, rounds::specs::Stages::stage, rounds::specs::Stages::sent_to_all, rounds::specs::Stages::waited, rounds::specs::Stages::heard_from_all))]
+#[tactic(auto, using(std::proofs::lemmas::Bool::Decides::nat_tests, crate::proofs::Rooms::full_room_lem), unfolding(words::specs::Spelled::control_of, words::specs::Spelled::site_of, rounds::specs::Stages::stage, rounds::specs::Stages::sent_to_all, rounds::specs::Stages::waited, rounds::specs::Stages::heard_from_all))]
 pub(crate) fn stage(run: &[u32; RUN], p: u32) -> Stage
     ensures { result ≡ Stages.stage (control_of run.now) p }
 {
-    let all = everyone(people(run));
+    let all = sets::full(people(run));
     if line(run, p, SENT) != all {
         return Stage::Sending;
     }

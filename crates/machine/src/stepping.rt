@@ -1,5 +1,5 @@
 // A step: its verdict, what was heard, and what an accepted step does.
-ghost use Rattle.std.specs.Prelude.{◌≡◌, suc};
+ghost use Rattle.std.specs.Prelude.{◌≡◌};
 ghost use Rattle.voting.specs.Tally as Tallies;
 ghost use Rattle.rounds.specs.declared.Event.TheVariants.{Step};
 ghost use Rattle.rounds.specs.Config.{Config};
@@ -25,47 +25,35 @@ struct Gathered {
     reach: u32,
 }
 
-// What p has heard from the processes below q, and what it has heard from q.
-fn hear(run: &[u32; RUN], p: u32, q: u32, g: Gathered) -> Gathered
-    requires { (g.tally ≡ Tallies.tally (messages_below q run.now p)) × (g.reach ≡ reach_below q run.now p) }
-    ensures { (result.tally ≡ Tallies.tally (messages_below (suc q) run.now p)) × (result.reach ≡ reach_below (suc q) run.now p) }
-{
-    if sets::has(line(run, p, HEARD), q) {
-        let r = line(run, p, ROUND);
-        let t = g.tally;
-        let tally = voting::hear(t, message(run, p, r, q));
-        let reach = sets::union(g.reach, letter(run, p, r, q, CARRIED));
-        return Gathered { tally, reach };
-    }
-    g
-}
-
 // What p has heard from the processes below n: every place is tested.
 #[tactic(auto, using(crate::proofs::Heard::tally_none, crate::proofs::Heard::reach_none))]
 fn listen(run: &[u32; RUN], p: u32, n: u32) -> Gathered
     ensures { (result.tally ≡ Tallies.tally (messages_below n run.now p)) × (result.reach ≡ reach_below n run.now p) }
 {
+    let r = line(run, p, ROUND);
     let mut g = Gathered {
         tally: voting::silence(),
         reach: line(run, p, REACH),
     };
     for q in 0..n {
-        g = hear(run, p, q, g);
+        if sets::has(line(run, p, HEARD), q) {
+            g.tally = voting::hear(g.tally, message(run, p, r, q));
+            g.reach = sets::union(g.reach, letter(run, p, r, q, CARRIED));
+        }
     }
     g
 }
 
 // p holds this from now on.
+#[tactic(auto, unfolding(words::specs::Calls::held))]
 fn hold(run: &mut [u32; RUN], p: u32, h: Holding)
     ensures { run.new ≡ Calls.held run.old p h }
 {
-    let vote = h.vote;
-    let decision = h.decision;
-    set_line(&mut *run, p, VALUE, h.value);
-    set_line(&mut *run, p, VOTED, flag_of(vote));
-    set_line(&mut *run, p, VOTE, word_of(vote));
-    set_line(&mut *run, p, DECIDED, flag_of(decision));
-    set_line(&mut *run, p, DECISION, word_of(decision));
+    set_line(run, p, VALUE, h.value);
+    set_line(run, p, VOTED, flag_of(h.vote));
+    set_line(run, p, VOTE, word_of(h.vote));
+    set_line(run, p, DECIDED, flag_of(h.decision));
+    set_line(run, p, DECISION, word_of(h.decision));
 }
 
 // p goes on from round r to the next.
@@ -73,15 +61,15 @@ fn hold(run: &mut [u32; RUN], p: u32, h: Holding)
 fn advance(run: &mut [u32; RUN], p: u32, r: u32, reach: u32)
     ensures { run.new ≡ Calls.advanced run.old p r reach }
 {
-    set_transit(&mut *run, p, r, 0);
-    set_line(&mut *run, p, ROUND, r.wrapping_add(1));
-    set_line(&mut *run, p, SENT, 0);
-    set_line(&mut *run, p, HEARD, 0);
-    set_line(&mut *run, p, REACH, reach);
+    set_transit(run, p, r, 0);
+    set_line(run, p, ROUND, r.wrapping_add(1));
+    set_line(run, p, SENT, 0);
+    set_line(run, p, HEARD, 0);
+    set_line(run, p, REACH, reach);
 }
 
 // The tests of a step, in document 01's order.
-#[tactic(auto, using(crate::proofs::Told::tests), unfolding(rounds::specs::Verdicts::verdict, rounds::specs::Verdicts::step_verdict, rounds::specs::Stages::sent_to_all, rounds::specs::Verdicts::outside, rounds::specs::Verdicts::crowded, rounds::specs::Verdicts::refuse, words::specs::Spelled::control_of, words::specs::Spelled::site_of))]
+#[tactic(auto, using(std::proofs::lemmas::Bool::Decides::nat_tests, crate::proofs::Rooms::full_room_lem), unfolding(rounds::specs::Verdicts::verdict, rounds::specs::Verdicts::outside, rounds::specs::Verdicts::crowded, rounds::specs::Verdicts::refuse, words::specs::Spelled::control_of, rounds::specs::Verdicts::step_verdict, rounds::specs::Stages::sent_to_all, words::specs::Spelled::site_of))]
 fn judge_step(run: &[u32; RUN], p: u32) -> Verdict
     ensures { result ≡ verdict (control_of run.now) (Step p) }
 {
@@ -92,7 +80,7 @@ fn judge_step(run: &[u32; RUN], p: u32) -> Verdict
     if MOST_EVENTS <= head(run, EVENTS) {
         return Err(Refusal::TooManyEvents);
     }
-    if line(run, p, SENT) != everyone(n) {
+    if line(run, p, SENT) != sets::full(n) {
         return Err(Refusal::NotSentToAll);
     }
     if line(run, p, ROUND) == LAST_ROUND {
@@ -102,16 +90,16 @@ fn judge_step(run: &[u32; RUN], p: u32) -> Verdict
 }
 
 // An accepted step.
+#[tactic(auto, unfolding(words::specs::Calls::stepped))]
 fn carry_step(run: &mut [u32; RUN], p: u32)
     ensures { run.new ≡ Calls.stepped run.old p }
 {
-    let r = line(&*run, p, ROUND);
-    let g = listen(&*run, p, people(&*run));
-    let t = g.tally;
-    let next = voting::rule(r, holding(&*run, p), t);
-    begin_event(&mut *run, p);
-    hold(&mut *run, p, next);
-    advance(&mut *run, p, r, g.reach);
+    let r = line(run, p, ROUND);
+    let g = listen(run, p, people(run));
+    let next = voting::rule(r, holding(run, p), g.tally);
+    begin_event(run, p);
+    hold(run, p, next);
+    advance(run, p, r, g.reach);
 }
 
 // Process p steps to its next round.

@@ -1,9 +1,0 @@
--- `letter` reads the word that the layout puts there.
--- Assumes nothing.
-use Rattle.std.proofs.Common.{refl}
-use Rattle.words.specs.Layout.{get}
-use Rattle.machine.proofs.cells.letter.Goals as goal
-
-pub returns : goal.returns
-unfolding get
-returns c = refl
