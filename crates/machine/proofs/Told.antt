@@ -1,24 +1,18 @@
 -- What an accepted event or opening tells of its numbers, whatever the memory holds.
 -- Assumes nothing.
-use Rattle.std.proofs.Common.{◌≡◌, ℕ, zero, suc, ◌<◌, ◌≤◌, ◌+◌, Bool, true, false, cond, ◌&&◌, eqb, ltb, leb, refl, ltb-true, eqb-true, Result, Ok, Err, is_ok, IsErrAnd, sym, ap, ◌∙◌, arith}
-use Rattle.std.proofs.Common.{le-ltb, lt-ltb, le-leb, eq-eqb, ne_eqb}
+use Rattle.std.proofs.Common.{◌≡◌, ℕ, zero, suc, ◌<◌, ◌≤◌, cond, Result, Ok, Err, is_ok, IsErrAnd, sym, ap, ◌∙◌, arith}
 use native.Mathlib.Decide.{ℕ_discrete}
-use borrow.Author.Tests.{lt-leb}
 use Rattle.rounds.specs.Limits.{most_processes}
 use Rattle.rounds.specs.declared.Event.TheVariants.{Send, Receive, Broadcast}
 use Rattle.rounds.specs.declared.Refusal.{Refusal}
-use Rattle.rounds.specs.Verdicts.{Verdict, Accepted, accepted, ahead, open_verdict, first_refusal, verdict}
+use Rattle.rounds.specs.Verdicts.{Verdict, Accepted, accepted, open_verdict, first_refusal, verdict}
 use Rattle.rounds.specs.Config.{Config}
 use Rattle.rounds.specs.Events.{if_accepted}
 use Rattle.rounds.specs.declared.Event.{Event}
 use Rattle.rounds.proofs.Answers.{accepted_is, opens_right, allowed}
 use Rattle.words.specs.Layout.{Mem}
 use Rattle.words.specs.Spelled.{people, control_of}
-use Rattle.words.specs.declared.Fate.{Fate}
-use Rattle.words.specs.declared.Fate.TheVariants.{Discarded, Kept, Refused}
-use Rattle.rounds.specs.Limits.{window}
-use Rattle.rounds.specs.Events.{timely}
-use Rattle.words.specs.Calls.{fate, judged, done, applied, answer}
+use Rattle.words.specs.Calls.{judged, done, applied, answer}
 use Rattle.words.specs.Exact.{Tried}
 use Rattle.words.specs.Shows.{Shows, Meant}
 use Rattle.words.proofs.Meaning.{judged_meant}
