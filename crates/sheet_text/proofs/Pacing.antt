@@ -8,10 +8,8 @@ use borrow.Author.Tests.{lt-ltb, le-ltb}
 use lib.Dec.{ltb}
 use lib.ListN.{length, get_or, take, drop, length-drop, length-take}
 use lib.Seq.{drop-drop, get_or-drop, sets}
-use Rattle.words.specs.declared.Standing.{Standing}
 use Rattle.words.specs.Layout.{Mem}
-use Rattle.words.specs.Spelled.{control_of, people}
-use Rattle.words.specs.Calls.{standing_of}
+use Rattle.words.specs.Spelled.{control_of}
 use Rattle.records.specs.declared.Place.{Place}
 use Rattle.records.specs.Records.{longest}
 use Rattle.records.proofs.Rest.{rest}
@@ -32,7 +30,6 @@ use Rattle.lines.specs.declared.Stand.TheVariants.{Reads, Closes}
 use Rattle.lines.specs.declared.Wants.{Wants}
 use Rattle.lines.specs.declared.Wants.TheVariants as wants
 use Rattle.lines.specs.declared.Piece.{Piece}
-use Rattle.lines.specs.Text.{w_line, v_line, e_line}
 use Rattle.lines.specs.Pieces.{line_room, Part, rests, adds, told_text, waits, on_turn, follow, closing_line, closing_count, closing, said, Came}
 use Rattle.lines.proofs.Turning.{adds_adds, adds_none, full_is, turn_is, haste_part}
 use Rattle.sheet_text.specs.declared.text.Pen.{Pen}

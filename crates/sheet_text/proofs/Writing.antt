@@ -3,12 +3,12 @@ use Prim.Native.Nat.{ℕ, ◌+◌, ◌≤◌}
 use native.Mathlib.Nat.{add-zero}
 use native.Mathlib.Omega.{arith}
 use mathlib.Core.Path.{◌≡◌, refl, sym, ◌∙◌}
-use mathlib.Core.List.{List, [], ◌∷◌, ◌++◌}
+use mathlib.Core.List.{List, [], ◌++◌}
 use lib.ListN.{length, length-append}
 use lib.Seq.{sets, length-sets}
 use Rattle.records.proofs.Stored.{sets_sets}
 use Rattle.sheet_text.specs.declared.text.Pen.{Pen}
-use Rattle.sheet_text.specs.Written.{Wrote, Fits}
+use Rattle.sheet_text.specs.Written.{Wrote}
 
 -- ---- what is written
 pub wrote_none : {p : Pen} → p.at ≤ length p.out.now → Wrote p p []

@@ -20,6 +20,7 @@ use trace::{Told, Turn};
 const LINE: usize = 66;
 
 // A sheet begins: the memory is cleared, whatever it held.
+#[tactic(auto, unfolding(lines::specs::Claims::first))]
 pub fn begin(run: &mut [u32; RUN]) -> Stand
     ensures { SheetBegun result run.new }
 {
@@ -56,7 +57,10 @@ fn follow(run: &mut [u32; RUN], place: Place, bytes: &[u8], last: bool, out: &mu
         match trace::one_record(&mut *run, &bytes[used..], here) {
             Turn::More => {
                 if last {
-                    break (Stand::Closes(trace::number(trace::at_end(here)), 0), Wants::Room);
+                    break (
+                        Stand::Closes(trace::number(trace::at_end(here)), 0),
+                        Wants::Room,
+                    );
                 }
                 break (Stand::Reads(here), Wants::Input);
             }
@@ -121,6 +125,7 @@ fn close(run: &[u32; RUN], number: u32, from: u8, out: &mut [u8]) -> Piece
 }
 
 // One piece: what is written of the sheet where it stands, from bytes of the trace at hand, which may be called the last, and with the room that out has.
+#[tactic(auto, unfolding(lines::specs::Pieces::piece))]
 pub fn write(run: &mut [u32; RUN], stand: Stand, bytes: &[u8], last: bool, out: &mut [u8]) -> Piece
     ensures { Came (Pieces.piece last (length out.old) stand run.old bytes.now)
         bytes.now out.old result run.new out.new }

@@ -1,6 +1,6 @@
 -- `keep` moves what there is from one place up to another.
 -- Assumes nothing.
-use Rattle.std.proofs.Common.{ℕ, zero, suc, ◌+◌, ◌-◌, ◌≡◌, List, [], ◌∷◌, length, drop, take, min, refl, ◌∙◌}
+use Rattle.std.proofs.Common.{ℕ, zero, suc, ◌+◌, ◌-◌, ◌≡◌, List, [], ◌∷◌, length, drop, take, min, ◌∙◌}
 use native.Mathlib.Omega.{arith}
 use lib.ListN.{length-drop, length-take}
 use lib.Seq.{slice}
