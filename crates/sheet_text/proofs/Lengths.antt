@@ -1,5 +1,5 @@
 -- How many bytes the numbers, the fields and the lines of the sheet take at most. Assumes nothing.
-use Prim.Native.Nat.{ℕ, zero, suc, ◌+◌, ◌/◌, ◌%◌, ◌^◌, ◌≤◌, ◌<◌}
+use Prim.Native.Nat.{ℕ, zero, suc, ◌/◌, ◌%◌, ◌^◌, ◌≤◌, ◌<◌}
 use native.Mathlib.Nat.{eq-zero-or-pos, pow-suc}
 use native.Mathlib.Omega.{arith}
 use mathlib.Core.Path.{◌≡◌, refl, ap}
@@ -13,7 +13,6 @@ use Rattle.voting.specs.declared.Choice.TheVariants.{Absent, Present}
 use Rattle.voting.specs.contracts.Choice.{the_field}
 use Rattle.words.specs.declared.Standing.{Standing}
 use Rattle.words.specs.Spelled.{word_of}
-use Rattle.sheet_text.specs.Written.{Fits}
 use Rattle.lines.specs.Pieces.{line_room}
 use Rattle.lines.specs.Text.{glyph, decimal, hex, field, set_field, choice_field, h_line, w_line, v_line, e_line}
 use Rattle.sheet_text.proofs.Decimals.{decimal_one, decimal_more}
@@ -54,34 +53,31 @@ unfolding choice_field word_of
 choice_length Absent h = omega arith
 choice_length (Present x) h = field_length x h
 
--- ---- each line fits where there is room for a line: none is longer than a `w` line may be
-fits : {l w : List ℕ} {at : ℕ} → length w ≤ line_room → at + line_room ≤ length l → Fits l at w
-fits h f = record { room = omega (arith, h, f) }
-
-pub h_fits : {l : List ℕ} {at : ℕ} (p r h : ℕ) → p < 256 → r < 2 ^ 32 → at + line_room ≤ length l → Fits l at (h_line p r h)
+-- ---- no line is longer than a `w` line may be
+pub h_length : (p r h : ℕ) → p < 256 → r < 2 ^ 32 → length (h_line p r h) ≤ line_room
 unfolding h_line
-h_fits p r h hp hr f = fits (simp length-append (omega (arith, byte_field_length p hp, field_length r hr, set_field_length h))) f
+h_length p r h hp hr = simp length-append (omega (arith, byte_field_length p hp, field_length r hr, set_field_length h))
 
-pub w_fits : {l : List ℕ} {at : ℕ} (p : ℕ) (s : Standing) → p < 256 → s.round < 2 ^ 32 → s.sending < 2 ^ 32 → s.collecting < 2 ^ 32 → s.pending < 2 ^ 32
-    → s.idle < 2 ^ 32 → at + line_room ≤ length l → Fits l at (w_line p s)
+pub w_length : (p : ℕ) (s : Standing) → p < 256 → s.round < 2 ^ 32 → s.sending < 2 ^ 32 → s.collecting < 2 ^ 32 → s.pending < 2 ^ 32 → s.idle < 2 ^ 32
+    → length (w_line p s) ≤ line_room
 unfolding w_line
-w_fits p s hp hr hs hc hw hi f =
+w_length p s hp hr hs hc hw hi =
     let head : length (field p) ≤ 4 = byte_field_length p hp in
     let round : length (field s.round) ≤ 11 = field_length s.round hr in
     let sending : length (field s.sending) ≤ 11 = field_length s.sending hs in
     let collecting : length (field s.collecting) ≤ 11 = field_length s.collecting hc in
     let pending : length (field s.pending) ≤ 11 = field_length s.pending hw in
     let idle : length (field s.idle) ≤ 11 = field_length s.idle hi in
-    fits (simp length-append (omega (arith, set_field_length s.reach))) f
+    simp length-append (omega (arith, set_field_length s.reach))
 
-pub v_fits : {l : List ℕ} {at : ℕ} (p : ℕ) (s : Standing) → p < 256 → s.value < 2 ^ 32 → word_of s.vote < 2 ^ 32 → word_of s.decision < 2 ^ 32
-    → at + line_room ≤ length l → Fits l at (v_line p s)
+pub v_length : (p : ℕ) (s : Standing) → p < 256 → s.value < 2 ^ 32 → word_of s.vote < 2 ^ 32 → word_of s.decision < 2 ^ 32
+    → length (v_line p s) ≤ line_room
 unfolding v_line
-v_fits p s hp hx hv hd f =
-    fits
-    (simp length-append (omega (arith, byte_field_length p hp, field_length s.value hx, choice_length s.vote hv, choice_length s.decision hd)))
-    f
+v_length p s hp hx hv hd =
+    simp length-append (omega (arith, byte_field_length p hp, field_length s.value hx, choice_length s.vote hv, choice_length s.decision hd))
 
-pub e_fits : {l : List ℕ} {at : ℕ} (events number : ℕ) → events < 2 ^ 32 → number < 2 ^ 32 → at + line_room ≤ length l → Fits l at (e_line events number)
+pub e_length : (events number : ℕ) → events < 2 ^ 32 → number < 2 ^ 32 → length (e_line events number) ≤ line_room
 unfolding e_line
-e_fits events number he hn f = fits (simp length-append (omega (arith, field_length events he, field_length number hn))) f
+e_length events number he hn = simp length-append (omega (arith, field_length events he, field_length number hn))
+
+pub ruleset closing_lengths = (w_length, v_length, e_length)

@@ -5,4 +5,3 @@ pub mod Writing
 pub mod Decimals
 pub mod Lengths
 pub mod Pacing
-pub mod Shifting

@@ -6,12 +6,10 @@ use mathlib.Core.Bool.{Bool, true, false, cond}
 use mathlib.Core.List.{List, [], ◌++◌, append-nil}
 use borrow.Author.Tests.{lt-ltb, le-ltb}
 use lib.Dec.{ltb}
-use lib.ListN.{length, get_or, take, drop, length-drop}
-use lib.Seq.{drop-drop, get_or-drop}
-use Rattle.words.specs.declared.Standing.{Standing}
+use lib.ListN.{length, get_or, take, drop, length-drop, length-take}
+use lib.Seq.{drop-drop, get_or-drop, sets}
 use Rattle.words.specs.Layout.{Mem}
-use Rattle.words.specs.Spelled.{control_of, people}
-use Rattle.words.specs.Calls.{standing_of}
+use Rattle.words.specs.Spelled.{control_of}
 use Rattle.records.specs.declared.Place.{Place}
 use Rattle.records.specs.Records.{longest}
 use Rattle.records.proofs.Rest.{rest}
@@ -32,11 +30,11 @@ use Rattle.lines.specs.declared.Stand.TheVariants.{Reads, Closes}
 use Rattle.lines.specs.declared.Wants.{Wants}
 use Rattle.lines.specs.declared.Wants.TheVariants as wants
 use Rattle.lines.specs.declared.Piece.{Piece}
-use Rattle.lines.specs.Text.{w_line, v_line, e_line}
 use Rattle.lines.specs.Pieces.{line_room, Part, rests, adds, told_text, waits, on_turn, follow, closing_line, closing_count, closing, said, Came}
 use Rattle.lines.proofs.Turning.{adds_adds, adds_none, full_is, turn_is, haste_part}
+use Rattle.sheet_text.specs.declared.text.Pen.{Pen}
 use Rattle.sheet_text.specs.Written.{Wrote}
-use Rattle.sheet_text.proofs.Writing.{wrote_none, wrote_one, wrote_length}
+use Rattle.sheet_text.proofs.Writing.{wrote_none, wrote_one}
 
 -- ---- what a piece comes to
 answered : ℕ → ℕ → Stand → Wants → Piece
@@ -49,184 +47,183 @@ not_room e = let q : ◌≡◌ {A = ℕ} 0 1 = cc in omega arith
 not_nothing : wants.Nothing ≡ wants.Input → ⊥
 not_nothing e = let q : ◌≡◌ {A = ℕ} 0 1 = cc in omega arith
 
-came : {x : Part} {w out₀ out : List ℕ} {used written : ℕ} {s : Stand} {m : Mem} {v : Wants} (text : List ℕ) → used ≤ length w → written ≤ length out
-    → Wrote out₀ out 0 written text → (v ≡ wants.Input → length w < used + longest) → x ≡ adds used text (rests s m v)
-    → Came x w out₀ (record { used = used; written = written; stand = s; wants = v }) m out
+-- text is what has been written since the pen began, at the front of its buffer
+pub record Begun (first pen : Pen) (text : List ℕ) : Type 0 where
+  pub front : first.at ≡ 0
+  pub wrote : Wrote first pen text
+
+begun_none : {pen : Pen} → pen.at ≡ 0 → Begun pen pen []
+begun_none e = record { front = e; wrote = wrote_none (omega arith) }
+
+further : {first pen pen' : Pen} {v w : List ℕ} → Begun first pen v → Wrote pen pen' w → Begun first pen' (v ++ w)
+further b g = record { front = b.front; wrote = wrote_one b.wrote g }
+
+came : {x : Part} {w : List ℕ} {first pen : Pen} {used : ℕ} {s : Stand} {m : Mem} {v : Wants} (text : List ℕ) → used ≤ length w → Begun first pen text
+    → (v ≡ wants.Input → length w < used + longest) → x ≡ adds used text (rests s m v)
+    → Came x w first.out.now (record { used = used; written = pen.at; stand = s; wants = v }) m pen.out.now
 unfolding adds rests said answered
-came {x} {w} {out₀} {out} {used} {written} {s} {m} {v} text l room wrote few e =
-    let long = wrote_length wrote in
-    let place : length text ≡ written = omega (arith, wrote.place) in
+came {x} {w} {first} {pen} {used} {s} {m} {v} text l b few e =
+    let place : length text ≡ pen.at = omega (arith, b.wrote.place, b.front) in
     let plus : used + 0 ≡ used = omega arith in
-    let same : answered used written s v ≡ answered (used + 0) (length (text ++ [])) s v = rw (append-nil text, place, plus) in
+    let same : answered used pen.at s v ≡ answered (used + 0) (length (text ++ [])) s v = rw (append-nil text, place, plus) in
+    let bytes : pen.out.now ≡ sets first.out.now 0 text = rw (← b.front) b.wrote.bytes in
     record {
       says = rw e same;
       words = rw e;
-      text = rw (e, append-nil text) (wrote.bytes ∙ sets_over text out₀ (omega arith));
+      text = rw (e, append-nil text) (bytes ∙ sets_over text first.out.now (omega (arith, b.wrote.within, b.wrote.long)));
       within = l;
-      room = omega arith;
+      room = omega (arith, b.wrote.within, b.wrote.long);
       short = few;
     }
 
+-- the buffer, given back, is as the pen left it
+pub back : {x : Part} {w out l l' : List ℕ} {p : Piece} {m : Mem} → Came x w out p m l → l' ≡ l → Came x w out p m l'
+back h e = rw e h
+
+-- ---- how far sends and receives go, and a record
+pub ruleset reading = (haste_within, goes_within, length-take, length-drop)
+
 -- ---- the loop that reads: x is the whole piece, and the rest of it is a piece from here on
-pub record Gone (last : Bool) (x : Part) (out₀ w : List ℕ) (pl : Place) (m : Mem) (out : List ℕ) (used written : ℕ) : Type 0 where
+pub record Gone (last : Bool) (x : Part) (w : List ℕ) (pl : Place) (m : Mem) (first pen : Pen) (used : ℕ) : Type 0 where
   pub within : used ≤ length w
-  pub room : written ≤ length out
   pub text : List ℕ
-  pub wrote : Wrote out₀ out 0 written text
-  pub part : x ≡ adds used text (follow last (length out₀ - written) 0 pl m (drop used w))
+  pub begun : Begun first pen text
+  pub part : x ≡ adds used text (follow last (length first.out.now - pen.at) 0 pl m (drop used w))
 
 -- a turn, with room for a line
-pub record Turned (last : Bool) (x : Part) (out₀ w : List ℕ) (pl : Place) (m m' : Mem) (out : List ℕ) (used written : ℕ) (t : Turn) : Type 0 where
-  pub so : Gone last x out₀ w pl m out used written
-  pub wide : line_room ≤ length out - written
-  pub answer : t ≡ turn pl (control_of m) (drop used w)
-  pub words : m' ≡ turned pl m (drop used w)
+pub record Turned (last : Bool) (x : Part) (w : List ℕ) (pl : Place) (m : Mem) (first pen : Pen) (used : ℕ) (t : Turn) : Type 0 where
+  pub before : Mem
+  pub so : Gone last x w pl before first pen used
+  pub wide : line_room ≤ length pen.out.now - pen.at
+  pub answer : t ≡ turn pl (control_of before) (drop used w)
+  pub words : m ≡ turned pl before (drop used w)
 
-module _ {last : Bool} {x : Part} {out₀ w : List ℕ} {pl : Place} {m : Mem} {out : List ℕ} {used written : ℕ}
-    (h : Gone last x out₀ w pl m out used written) where
-  pub full_came : length out - written < line_room
-      → Came x w out₀ (record { used = used; written = written; stand = Reads pl; wants = wants.Room }) m out
+module _ {last : Bool} {x : Part} {w : List ℕ} {pl : Place} {m : Mem} {first pen : Pen} {used : ℕ} (h : Gone last x w pl m first pen used) where
+  pub full_came : length pen.out.now - pen.at < line_room
+      → Came x w first.out.now (record { used = used; written = pen.at; stand = Reads pl; wants = wants.Room }) m pen.out.now
   full_came l =
-      came h.text h.within h.room h.wrote (λ e. absurd (not_room e))
+      came h.text h.within h.begun (λ e. absurd (not_room e))
       (h.part
-      ∙ ap (adds used h.text) (full_is last (length out₀ - written) pl m (drop used w) (let long = wrote_length h.wrote in omega arith)))
+      ∙ ap (adds used h.text) (full_is last (length first.out.now - pen.at) pl m (drop used w) (omega (arith, h.begun.wrote.long))))
 
   -- sends and receives taken all at once, with room for a line
-  pub hastened : {m' : Mem} {more : ℕ} → line_room ≤ length out - written
+  hastened : {m' : Mem} {more : ℕ} → line_room ≤ length pen.out.now - pen.at
       → (more ≡ (haste pl m (take (length w - used) (drop used w))).used) × (m' ≡ (haste pl m (take (length w - used) (drop used w))).words)
-      → Gone last x out₀ w pl m' out (used + more) written
+      → Gone last x w pl m' first pen (used + more)
   hastened wide e =
-      let long = wrote_length h.wrote in
       let far = haste_within pl m (drop used w) in
       let n = rw rest at e.0 in
       let q = rw rest at e.1 in
       record {
         within = omega (arith, h.within, far, n, length-drop used w);
-        room = h.room;
         text = h.text;
-        wrote = h.wrote;
-        part = rw (n, q) (haste_part last x h.text (length out₀ - written) (omega (arith, wide, long)) w used pl m h.part);
+        begun = h.begun;
+        part = rw (n, q) (haste_part last x h.text (length first.out.now - pen.at) (omega (arith, wide, h.begun.wrote.long)) w used pl m h.part);
       }
 
-  -- a turn, with room for a line
-  pub took : {m' : Mem} {t : Turn} → line_room ≤ length out - written
-      → (t ≡ turn pl (control_of m) (take (length w - used) (drop used w))) × (m' ≡ turned pl m (take (length w - used) (drop used w)))
-      → Turned last x out₀ w pl m m' out used written t
-  took l e = record { so = h; wide = l; answer = rw rest at e.0; words = rw rest at e.1 }
+  -- and the turn after them
+  pub took : {m' m'' : Mem} {more : ℕ} {t : Turn} → line_room ≤ length pen.out.now - pen.at
+      → (more ≡ (haste pl m (take (length w - used) (drop used w))).used) × (m' ≡ (haste pl m (take (length w - used) (drop used w))).words)
+      → (t ≡ turn pl (control_of m') (take (length w - (used + more)) (drop (used + more) w)))
+      × (m'' ≡ turned pl m' (take (length w - (used + more)) (drop (used + more) w)))
+      → Turned last x w pl m'' first pen (used + more) t
+  took l e g = record { before = _; so = hastened l e; wide = l; answer = rw rest at g.0; words = rw rest at g.1 }
 
 -- ---- what comes of the turn
-module _ {last : Bool} {x : Part} {out₀ w : List ℕ} {pl : Place} {m m' : Mem} {out : List ℕ} {used written : ℕ} {t : Turn}
-    (c : Turned last x out₀ w pl m m' out used written t) where
-  pub goes_far : {k : ℕ} {place : Place} {y : Told} → t ≡ Goes k place y → (0 < k) × (used + k ≤ length w)
+module _ {last : Bool} {x : Part} {w : List ℕ} {pl : Place} {m : Mem} {first pen : Pen} {used : ℕ} {t : Turn}
+    (c : Turned last x w pl m first pen used t) where
+  goes_far : {k : ℕ} {place : Place} {y : Told} → t ≡ Goes k place y → (0 < k) × (used + k ≤ length w)
   goes_far e =
-      let far = goes_within pl (control_of m) (drop used w) (sym c.answer ∙ e) in
+      let far = goes_within pl (control_of c.before) (drop used w) (sym c.answer ∙ e) in
       (far.0, omega (arith, far.1, length-drop used w, c.so.within))
 
   decides : (u : Turn) → t ≡ u
-      → x ≡ adds used c.so.text (on_turn last pl m' u (λ k place y. follow last (length out₀ - written - length (told_text y)) 0 place m' (drop k (drop used w))))
+      → x ≡ adds used c.so.text (on_turn last pl m u (λ k place y. follow last (length first.out.now - pen.at - length (told_text y)) 0 place m (drop k (drop used w))))
   decides u e =
-      let long = wrote_length c.so.wrote in
-      let q : turn pl (control_of m) (drop used w) ≡ u = sym c.answer ∙ e in
+      let q : turn pl (control_of c.before) (drop used w) ≡ u = sym c.answer ∙ e in
       rw c.words
       (c.so.part
-      ∙ ap (adds used c.so.text) (turn_is last (length out₀ - written) pl m (drop used w) (omega (arith, c.wide, long)) ∙ rw q))
+      ∙ ap (adds used c.so.text)
+      (turn_is last (length first.out.now - pen.at) pl c.before (drop used w) (omega (arith, c.wide, c.so.begun.wrote.long)) ∙ rw q))
 
-  pub goes_on : {k : ℕ} {place : Place} {y : Told} {out' : List ℕ} {written' : ℕ} → t ≡ Goes k place y
-      → (Wrote out out' written written' (told_text y)) × (written' ≤ length out') → Gone last x out₀ w place m' out' (used + k) written'
+  pub goes_on : {k : ℕ} {place : Place} {y : Told} {pen' : Pen} → t ≡ Goes k place y → Wrote pen pen' (told_text y)
+      → Gone last x w place m first pen' (used + k)
   unfolding on_turn
-  goes_on {k} {place} {y} {out'} {written'} e p =
-      let less : length out₀ - written - length (told_text y) ≡ length out₀ - written' = omega (arith, p.0.place) in
+  goes_on {k} {place} {y} {pen'} e g =
+      let less : length first.out.now - pen.at - length (told_text y) ≡ length first.out.now - pen'.at = omega (arith, g.place) in
       record {
         within = (goes_far e).1;
-        room = p.1;
         text = c.so.text ++ told_text y;
-        wrote = wrote_one c.so.wrote p.0;
+        begun = further c.so.begun g;
         part = decides (Goes k place y) e ∙ adds_adds used k c.so.text (told_text y) _ ∙ rw (less, drop-drop k used w);
       }
 
   pub ends_came : {y : Ending} {n : ℕ} → t ≡ Ends y → n ≡ ending_number y
-      → Came x w out₀ (record { used = used; written = written; stand = Closes n 0; wants = wants.Room }) m' out
+      → Came x w first.out.now (record { used = used; written = pen.at; stand = Closes n 0; wants = wants.Room }) m pen.out.now
   unfolding on_turn
-  ends_came {y} e q = rw q (came c.so.text c.so.within c.so.room c.so.wrote (λ i. absurd (not_room i)) (decides (Ends y) e))
+  ends_came {y} e q = rw q (came c.so.text c.so.within c.so.begun (λ i. absurd (not_room i)) (decides (Ends y) e))
 
   pub more_came : ((i : ℕ) → get_or w i 0 < 256) → t ≡ More → last ≡ false
-      → Came x w out₀ (record { used = used; written = written; stand = Reads pl; wants = wants.Input }) m' out
+      → Came x w first.out.now (record { used = used; written = pen.at; stand = Reads pl; wants = wants.Input }) m pen.out.now
   unfolding on_turn waits
   more_came bytes e q =
-      let cut = more_cut pl (control_of m) (drop used w) (sym c.answer ∙ e) in
+      let cut = more_cut pl (control_of c.before) (drop used w) (sym c.answer ∙ e) in
       let few = cut_short pl (drop used w) (rw (get_or-drop used w 3 0) (bytes (used + 3))) cut in
-      came c.so.text c.so.within c.so.room c.so.wrote (λ i. omega (arith, few, length-drop used w)) (decides More e ∙ rw q)
+      came c.so.text c.so.within c.so.begun (λ i. omega (arith, few, length-drop used w)) (decides More e ∙ rw q)
 
   pub last_came : {n : ℕ} {y : Ending} → t ≡ More → last ≡ true → y ≡ at_end pl → n ≡ ending_number y
-      → Came x w out₀ (record { used = used; written = written; stand = Closes n 0; wants = wants.Room }) m' out
+      → Came x w first.out.now (record { used = used; written = pen.at; stand = Closes n 0; wants = wants.Room }) m pen.out.now
   unfolding on_turn waits
-  last_came e q a b = rw (b, a) (came c.so.text c.so.within c.so.room c.so.wrote (λ i. absurd (not_room i)) (decides More e ∙ rw q))
+  last_came e q a b = rw (b, a) (came c.so.text c.so.within c.so.begun (λ i. absurd (not_room i)) (decides More e ∙ rw q))
 
-pub none_gone : (last : Bool) (out w : List ℕ) (pl : Place) (m : Mem) → Gone last (follow last (length out) 0 pl m w) out w pl m out 0 0
-none_gone last out w pl m =
-    let e : length out - 0 ≡ length out = omega arith in
-    record { within = omega arith; room = omega arith; text = []; wrote = wrote_none; part = rw e (adds_none (follow last (length out) 0 pl m w)) }
-
--- ---- the line that comes next when the trace has ended, as the code finds it
-module _ (m : Mem) (number k n : ℕ) (q : n ≡ people m) where
-  pub closing_w : {s : Standing} → k < n → s ≡ standing_of m k → closing_line m number k ≡ w_line k s
-  unfolding closing_line
-  closing_w l e = rw (← q, lt-ltb k n l, ← e)
-
-  pub closing_v : {s : Standing} → n ≤ k → k < n + n → s ≡ standing_of m (k - n) → closing_line m number k ≡ v_line (k - n) s
-  unfolding closing_line
-  closing_v l h e = rw (← q, le-ltb k n l, lt-ltb k (n + n) h, ← e)
-
-  pub closing_e : {events : ℕ} → n ≤ k → n + n ≤ k → events ≡ (control_of m).events → closing_line m number k ≡ e_line events number
-  unfolding closing_line
-  closing_e l h e = rw (← q, le-ltb k n l, le-ltb k (n + n) h, ← e)
+pub none_gone : (last : Bool) (w : List ℕ) (pl : Place) (m : Mem) {pen : Pen} → pen.at ≡ 0
+    → Gone last (follow last (length pen.out.now) 0 pl m w) w pl m pen pen 0
+none_gone last w pl m {pen} z =
+    let e : length pen.out.now - pen.at ≡ length pen.out.now = omega arith in
+    record { within = omega arith; text = []; begun = begun_none z; part = rw e (adds_none (follow last (length pen.out.now) 0 pl m w)) }
 
 -- ---- the loop that closes
-pub record Shut (x : Part) (out₀ : List ℕ) (m : Mem) (number : ℕ) (out : List ℕ) (k written : ℕ) : Type 0 where
-  pub room : written ≤ length out
+pub record Shut (x : Part) (m : Mem) (number : ℕ) (first pen : Pen) (k : ℕ) : Type 0 where
   pub text : List ℕ
-  pub wrote : Wrote out₀ out 0 written text
-  pub part : x ≡ adds 0 text (closing (length out₀ - written) (closing_count m - k) number k m)
+  pub begun : Begun first pen text
+  pub part : x ≡ adds 0 text (closing (length first.out.now - pen.at) (closing_count m - k) number k m)
 
-module _ {x : Part} {out₀ : List ℕ} {m : Mem} {number : ℕ} {out : List ℕ} {k written : ℕ} (h : Shut x out₀ m number out k written) where
-  pub all_came : closing_count m ≤ k → Came x [] out₀ (record { used = 0; written = written; stand = Closes number k; wants = wants.Nothing }) m out
+module _ {x : Part} {m : Mem} {number : ℕ} {first pen : Pen} {k : ℕ} (h : Shut x m number first pen k) where
+  pub all_came : closing_count m ≤ k → Came x [] first.out.now (record { used = 0; written = pen.at; stand = Closes number k; wants = wants.Nothing }) m pen.out.now
   unfolding closing
   all_came l =
       let e : closing_count m - k ≡ 0 = omega arith in
-      came h.text (omega arith) h.room h.wrote (λ i. absurd (not_nothing i)) (h.part ∙ rw e)
+      came h.text (omega arith) h.begun (λ i. absurd (not_nothing i)) (h.part ∙ rw e)
 
   -- a line is left
   one_left : k < closing_count m → closing_count m - k ≡ suc (closing_count m - (k + 1))
   one_left l = omega arith
 
-  pub short_came : k < closing_count m → length out - written < line_room
-      → Came x [] out₀ (record { used = 0; written = written; stand = Closes number k; wants = wants.Room }) m out
+  pub short_came : k < closing_count m → length pen.out.now - pen.at < line_room
+      → Came x [] first.out.now (record { used = 0; written = pen.at; stand = Closes number k; wants = wants.Room }) m pen.out.now
   unfolding closing
   short_came l short =
-      let long = wrote_length h.wrote in
-      came h.text (omega arith) h.room h.wrote (λ e. absurd (not_room e))
-      (h.part ∙ rw (one_left l, lt-ltb (length out₀ - written) line_room (omega arith)))
+      came h.text (omega arith) h.begun (λ e. absurd (not_room e))
+      (h.part ∙ rw (one_left l, lt-ltb (length first.out.now - pen.at) line_room (omega (arith, h.begun.wrote.long))))
 
-  pub line_on : {out' : List ℕ} {written' : ℕ} → k < closing_count m → line_room ≤ length out - written
-      → (Wrote out out' written written' (closing_line m number k)) × (written' ≤ length out') → Shut x out₀ m number out' (k + 1) written'
+  pub line_on : {pen' : Pen} → k < closing_count m → line_room ≤ length pen.out.now - pen.at → Wrote pen pen' (closing_line m number k)
+      → Shut x m number first pen' (k + 1)
   unfolding closing
-  line_on {out'} {written'} l wide p =
-      let long = wrote_length h.wrote in
-      let less : length out₀ - written - length (closing_line m number k) ≡ length out₀ - written' = omega (arith, p.0.place) in
+  line_on {pen'} l wide g =
+      let less : length first.out.now - pen.at - length (closing_line m number k) ≡ length first.out.now - pen'.at = omega (arith, g.place) in
       record {
-        room = p.1;
         text = h.text ++ closing_line m number k;
-        wrote = wrote_one h.wrote p.0;
+        begun = further h.begun g;
         part =
             h.part
-            ∙ rw (one_left l, le-ltb (length out₀ - written) line_room (omega arith))
+            ∙ rw (one_left l, le-ltb (length first.out.now - pen.at) line_room (omega (arith, h.begun.wrote.long)))
             (adds_adds 0 0 h.text (closing_line m number k) _ ∙ rw less);
       }
 
-pub none_shut : (out : List ℕ) (m : Mem) (number k : ℕ) → Shut (closing (length out) (closing_count m - k) number k m) out m number out k 0
-none_shut out m number k =
-    let e : length out - 0 ≡ length out = omega arith in
-    record { room = omega arith; text = []; wrote = wrote_none; part = rw e (adds_none (closing (length out) (closing_count m - k) number k m)) }
+pub none_shut : (m : Mem) (number k : ℕ) {pen : Pen} → pen.at ≡ 0 → Shut (closing (length pen.out.now) (closing_count m - k) number k m) m number pen pen k
+none_shut m number k {pen} z =
+    let e : length pen.out.now - pen.at ≡ length pen.out.now = omega arith in
+    record { text = []; begun = begun_none z; part = rw e (adds_none (closing (length pen.out.now) (closing_count m - k) number k m)) }
 
 -- it uses no byte of the bytes at hand, and never waits for input
 closing_other : (j room number k : ℕ) (m : Mem) → (closing room j number k m).wants ≡ wants.Input → ⊥

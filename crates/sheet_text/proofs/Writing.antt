@@ -1,47 +1,31 @@
--- Text written into a buffer piece by piece, each piece behind the one before. Assumes nothing.
-use Prim.Native.Nat.{ℕ, suc, ◌+◌, ◌/◌, ◌%◌, ◌≤◌}
+-- Text written piece by piece, each piece behind the one before. Assumes nothing.
+use Prim.Native.Nat.{ℕ, ◌+◌, ◌≤◌}
 use native.Mathlib.Nat.{add-zero}
 use native.Mathlib.Omega.{arith}
-use mathlib.Core.Path.{◌≡◌, refl, sym}
+use mathlib.Core.Path.{◌≡◌, refl, sym, ◌∙◌}
 use mathlib.Core.List.{List, [], ◌++◌}
-use lib.ListN.{length, set, length-append}
+use lib.ListN.{length, length-append}
 use lib.Seq.{sets, length-sets}
 use Rattle.records.proofs.Stored.{sets_sets}
-use Rattle.lines.specs.Text.{glyph, space, hex, set_field}
-use Rattle.sheet_text.specs.Written.{Wrote, Fits}
+use Rattle.sheet_text.specs.declared.text.Pen.{Pen}
+use Rattle.sheet_text.specs.Written.{Wrote}
 
 -- ---- what is written
-pub wrote_length : {l l' : List ℕ} {at r : ℕ} {w : List ℕ} → Wrote l l' at r w → length l' ≡ length l
-wrote_length {l} {l'} {at} {r} {w} p = rw p.bytes (length-sets l at w)
-
-pub wrote_none : {l : List ℕ} {at : ℕ} → Wrote l l at at []
-wrote_none {l} {at} = record { place = sym (add-zero at); bytes = refl }
+pub wrote_none : {p : Pen} → p.at ≤ length p.out.now → Wrote p p []
+wrote_none {p} h = record { same = refl; place = sym (add-zero p.at); bytes = refl; long = refl; within = h }
 
 -- two texts, one behind the other, are one
-pub wrote_one : {l l' : List ℕ} {at r : ℕ} {v w : List ℕ} {l'' : List ℕ} {r' : ℕ} → Wrote l l' at r v → Wrote l' l'' r r' w → Wrote l l'' at r' (v ++ w)
-wrote_one {l} {l'} {at} {r} {v} {w} {l''} {r'} p q = record {
-  place = omega (arith, p.place, q.place, length-append v w);
-  bytes = rw (q.bytes, p.bytes, p.place) (sets_sets v l at w);
+pub wrote_one : {p q r : Pen} {v w : List ℕ} → Wrote p q v → Wrote q r w → Wrote p r (v ++ w)
+wrote_one {p} {q} {r} {v} {w} g h = record {
+  same = h.same ∙ g.same;
+  place = omega (arith, g.place, h.place, length-append v w);
+  bytes = rw (h.bytes, g.bytes, g.place) (sets_sets v p.out.now p.at w);
+  long = h.long ∙ g.long;
+  within = h.within;
 }
 
--- ---- room for the first of two texts, and behind it for the second
-pub fits_first : {l : List ℕ} {at : ℕ} (v w : List ℕ) → Fits l at (v ++ w) → Fits l at v
-fits_first v w f = record { room = omega (arith, f.room, length-append v w) }
+-- ---- what the writers of fields and lines go by
+pub sets_one : (l : List ℕ) (at : ℕ) (v w : List ℕ) → sets l at (v ++ w) ≡ sets (sets l at v) (at + length v) w
+sets_one l at v w = sym (sets_sets v l at w)
 
-pub fits_rest : {l l' : List ℕ} {at r : ℕ} {v : List ℕ} (w : List ℕ) → Fits l at (v ++ w) → Wrote l l' at r v → Fits l' r w
-fits_rest {l} {l'} {at} {r} {v} w f p = record { room = omega (arith, f.room, length-append v w, wrote_length p, p.place) }
-
--- what is written where it has room ends within the buffer
-pub wrote_within : {l l' : List ℕ} {at r : ℕ} {w : List ℕ} → Fits l at w → Wrote l l' at r w → r ≤ length l'
-wrote_within f p = omega (arith, f.room, p.place, wrote_length p)
-
--- ---- a set: five bytes, as the code has their places
-pub set_stored : (l : List ℕ) (at s : ℕ) {a b c d : ℕ} → a ≡ glyph (s / 4096 % 16) → b ≡ glyph (s / 256 % 16) → c ≡ glyph (s / 16 % 16) → d ≡ glyph (s % 16)
-    → set (set (set (set (set l at space) (at + 1) a) (at + 2) b) (at + 3) c) (at + 4) d ≡ sets l at (set_field s)
-unfolding set_field hex
-set_stored l at s p q r t =
-    let one : at + 1 ≡ suc at = omega arith in
-    let two : at + 2 ≡ suc (suc at) = omega arith in
-    let three : at + 3 ≡ suc (suc (suc at)) = omega arith in
-    let four : at + 4 ≡ suc (suc (suc (suc at))) = omega arith in
-    rw (p, q, r, t, one, two, three, four)
+pub ruleset writing = (length-append, length-sets, sets_one)

@@ -1,5 +1,5 @@
-// The lines of the sheet, written into a lent buffer from a place on. Each function answers the place behind what it wrote; there must be room for it.
-ghost use Rattle.std.specs.Prelude.{◌/◌, ◌%◌, ◌<◌, ◌≡◌, [], ◌∷◌};
+// The lines of the sheet, written into a lent buffer. There must be room for what a pen writes.
+ghost use Rattle.std.specs.Prelude.{◌/◌, ◌%◌, ◌<◌, ◌≡◌, ◌≤◌, ◌-◌, [], ◌∷◌, length};
 ghost use Rattle.lines.specs.Text as Text;
 ghost use Rattle.sheet_text.specs.Written.{Wrote, Fits};
 
@@ -10,15 +10,8 @@ const SPACE: u8 = 0x20;
 
 const LINE_FEED: u8 = 0x0a;
 
-fn put_byte(out: &mut [u8], at: usize, b: u8) -> usize
-    requires { Fits out.old at (b ∷ []) }
-    ensures { Wrote out.old out.new at result (b ∷ []) }
-{
-    out[at] = b;
-    at + 1
-}
-
 // The ASCII code of a digit; letters are small.
+#[tactic(auto, unfolding(lines::specs::Text::glyph))]
 fn glyph(d: u32) -> u8
     requires { d < 16 }
     ensures { result ≡ Text.glyph d }
@@ -26,116 +19,146 @@ fn glyph(d: u32) -> u8
     if d < 10 { 48 + d as u8 } else { 87 + d as u8 }
 }
 
-// Two digits of a number below a hundred, the first a zero where it has only one.
-fn put_two(out: &mut [u8], at: usize, n: u32) -> usize
-    requires { (n < 100) × Fits out.old at (Text.glyph (n / 10) ∷ Text.glyph (n % 10) ∷ []) }
-    ensures { Wrote out.old out.new at result (Text.glyph (n / 10) ∷ Text.glyph (n % 10) ∷ []) }
-{
-    out[at] = glyph(n / 10);
-    out[at + 1] = glyph(n % 10);
-    at + 2
+// Writes into a lent buffer, from the front on.
+#[derive(Drop)]
+pub(crate) struct Pen<'a> {
+    pub(crate) out: &'a mut [u8],
+    // The place behind what is written.
+    pub(crate) at: usize,
 }
 
-// A number in decimal without leading zeros, two digits at a time.
-fn put_decimal(out: &mut [u8], at: usize, n: u32) -> usize
-    requires { Fits out.old at (Text.decimal n) }
-    ensures { Wrote out.old out.new at result (Text.decimal n) }
-{
-    if n < 10 {
-        return put_byte(out, at, glyph(n));
+impl<'a> Pen<'a> {
+    // How many bytes there is room for.
+    pub(crate) fn room(&self) -> usize
+        requires { self.now.at ≤ length self.now.out.now }
+        ensures { result ≡ length self.now.out.now - self.now.at }
+    {
+        self.out.len() - self.at
     }
-    if n < 100 {
-        return put_two(out, at, n);
+
+    fn byte(&mut self, b: u8)
+        requires { Fits self.old (b ∷ []) }
+        ensures { Wrote self.old self.new (b ∷ []) }
+    {
+        self.out[self.at] = b;
+        self.at += 1;
     }
-    let last = put_decimal(out, at, n / 100);
-    put_two(out, last, n % 100)
-}
 
-fn put_field(out: &mut [u8], at: usize, n: u32) -> usize
-    requires { Fits out.old at (Text.field n) }
-    ensures { Wrote out.old out.new at result (Text.field n) }
-{
-    let first = put_byte(out, at, SPACE);
-    put_decimal(out, first, n)
-}
+    // Two digits of a number below a hundred, the first a zero where it has only one.
+    fn two(&mut self, n: u32)
+        requires { (n < 100) × Fits self.old (Text.glyph (n / 10) ∷ Text.glyph (n % 10) ∷ []) }
+        ensures { Wrote self.old self.new (Text.glyph (n / 10) ∷ Text.glyph (n % 10) ∷ []) }
+    {
+        self.byte(glyph(n / 10));
+        self.byte(glyph(n % 10));
+    }
 
-// A set of processes: four hex digits.
-fn put_set(out: &mut [u8], at: usize, s: u32) -> usize
-    requires { Fits out.old at (Text.set_field s) }
-    ensures { Wrote out.old out.new at result (Text.set_field s) }
-{
-    out[at] = SPACE;
-    out[at + 1] = glyph(s / 4096 % 16);
-    out[at + 2] = glyph(s / 256 % 16);
-    out[at + 3] = glyph(s / 16 % 16);
-    out[at + 4] = glyph(s % 16);
-    at + 5
-}
-
-// A vote or a decision, and a dash where it is absent.
-fn put_choice(out: &mut [u8], at: usize, c: Choice) -> usize
-    requires { Fits out.old at (Text.choice_field c) }
-    ensures { Wrote out.old out.new at result (Text.choice_field c) }
-{
-    match c {
-        Choice::Absent => {
-            let first = put_byte(out, at, SPACE);
-            put_byte(out, first, b'-')
+    // A number in decimal without leading zeros, two digits at a time.
+    #[tactic(auto, using(crate::proofs::Decimals::writing_digits))]
+    fn decimal(&mut self, n: u32)
+        requires { Fits self.old (Text.decimal n) }
+        ensures { Wrote self.old self.new (Text.decimal n) }
+    {
+        if n < 10 {
+            return self.byte(glyph(n));
         }
-        Choice::Present(x) => put_field(out, at, x),
+        if n < 100 {
+            return self.two(n);
+        }
+        self.decimal(n / 100);
+        self.two(n % 100);
     }
-}
 
-// An accepted step: the process, the round finished, who was heard.
-pub(crate) fn put_h(out: &mut [u8], at: usize, p: u8, round: u32, heard: u32) -> usize
-    requires { Fits out.old at (Text.h_line p round heard) }
-    ensures { Wrote out.old out.new at result (Text.h_line p round heard) }
-{
-    let a0 = put_byte(out, at, b'h');
-    let a1 = put_field(out, a0, p as u32);
-    let a2 = put_field(out, a1, round);
-    let a3 = put_set(out, a2, heard);
-    put_byte(out, a3, LINE_FEED)
-}
+    #[tactic(auto, using(crate::proofs::Writing::writing), unfolding(lines::specs::Text::field))]
+    fn field(&mut self, n: u32)
+        requires { Fits self.old (Text.field n) }
+        ensures { Wrote self.old self.new (Text.field n) }
+    {
+        self.byte(SPACE);
+        self.decimal(n);
+    }
 
-// Of a process: its round, the counts S, C, P, I, and its reach.
-pub(crate) fn put_w(out: &mut [u8], at: usize, p: u8, s: Standing) -> usize
-    requires { Fits out.old at (Text.w_line p s) }
-    ensures { Wrote out.old out.new at result (Text.w_line p s) }
-{
-    let a0 = put_byte(out, at, b'w');
-    let a1 = put_field(out, a0, p as u32);
-    let a2 = put_field(out, a1, s.round);
-    let a3 = put_field(out, a2, s.sending);
-    let a4 = put_field(out, a3, s.collecting);
-    let a5 = put_field(out, a4, s.pending);
-    let a6 = put_field(out, a5, s.idle);
-    let a7 = put_set(out, a6, s.reach);
-    put_byte(out, a7, LINE_FEED)
-}
+    // A set of processes: four hex digits.
+    #[tactic(auto, using(crate::proofs::Writing::writing), unfolding(lines::specs::Text::set_field, lines::specs::Text::hex))]
+    fn set(&mut self, s: u32)
+        requires { Fits self.old (Text.set_field s) }
+        ensures { Wrote self.old self.new (Text.set_field s) }
+    {
+        self.byte(SPACE);
+        self.byte(glyph(s / 4096 % 16));
+        self.byte(glyph(s / 256 % 16));
+        self.byte(glyph(s / 16 % 16));
+        self.byte(glyph(s % 16));
+    }
 
-// Of a process: its value, vote and decision.
-pub(crate) fn put_v(out: &mut [u8], at: usize, p: u8, s: Standing) -> usize
-    requires { Fits out.old at (Text.v_line p s) }
-    ensures { Wrote out.old out.new at result (Text.v_line p s) }
-{
-    let vote = s.vote;
-    let decision = s.decision;
-    let a0 = put_byte(out, at, b'v');
-    let a1 = put_field(out, a0, p as u32);
-    let a2 = put_field(out, a1, s.value);
-    let a3 = put_choice(out, a2, vote);
-    let a4 = put_choice(out, a3, decision);
-    put_byte(out, a4, LINE_FEED)
-}
+    // A vote or a decision, and a dash where it is absent.
+    #[tactic(auto, using(crate::proofs::Writing::writing), unfolding(lines::specs::Text::choice_field))]
+    fn choice(&mut self, c: Choice)
+        requires { Fits self.old (Text.choice_field c) }
+        ensures { Wrote self.old self.new (Text.choice_field c) }
+    {
+        match c {
+            Choice::Absent => {
+                self.byte(SPACE);
+                self.byte(b'-');
+            }
+            Choice::Present(x) => self.field(x),
+        }
+    }
 
-// The accepted events, and the number.
-pub(crate) fn put_e(out: &mut [u8], at: usize, events: u32, number: u32) -> usize
-    requires { Fits out.old at (Text.e_line events number) }
-    ensures { Wrote out.old out.new at result (Text.e_line events number) }
-{
-    let a0 = put_byte(out, at, b'e');
-    let a1 = put_field(out, a0, events);
-    let a2 = put_field(out, a1, number);
-    put_byte(out, a2, LINE_FEED)
+    // An accepted step: the process, the round finished, who was heard.
+    #[tactic(auto, using(crate::proofs::Writing::writing), unfolding(lines::specs::Text::h_line))]
+    pub(crate) fn h_line(&mut self, p: u8, round: u32, heard: u32)
+        requires { Fits self.old (Text.h_line p round heard) }
+        ensures { Wrote self.old self.new (Text.h_line p round heard) }
+    {
+        self.byte(b'h');
+        self.field(p as u32);
+        self.field(round);
+        self.set(heard);
+        self.byte(LINE_FEED);
+    }
+
+    // Of a process: its round, the counts S, C, P, I, and its reach.
+    #[tactic(auto, using(crate::proofs::Writing::writing), unfolding(lines::specs::Text::w_line))]
+    pub(crate) fn w_line(&mut self, p: u8, s: Standing)
+        requires { Fits self.old (Text.w_line p s) }
+        ensures { Wrote self.old self.new (Text.w_line p s) }
+    {
+        self.byte(b'w');
+        self.field(p as u32);
+        self.field(s.round);
+        self.field(s.sending);
+        self.field(s.collecting);
+        self.field(s.pending);
+        self.field(s.idle);
+        self.set(s.reach);
+        self.byte(LINE_FEED);
+    }
+
+    // Of a process: its value, vote and decision.
+    #[tactic(auto, using(crate::proofs::Writing::writing), unfolding(lines::specs::Text::v_line))]
+    pub(crate) fn v_line(&mut self, p: u8, s: Standing)
+        requires { Fits self.old (Text.v_line p s) }
+        ensures { Wrote self.old self.new (Text.v_line p s) }
+    {
+        self.byte(b'v');
+        self.field(p as u32);
+        self.field(s.value);
+        self.choice(s.vote);
+        self.choice(s.decision);
+        self.byte(LINE_FEED);
+    }
+
+    // The accepted events, and the number.
+    #[tactic(auto, using(crate::proofs::Writing::writing), unfolding(lines::specs::Text::e_line))]
+    pub(crate) fn e_line(&mut self, events: u32, number: u32)
+        requires { Fits self.old (Text.e_line events number) }
+        ensures { Wrote self.old self.new (Text.e_line events number) }
+    {
+        self.byte(b'e');
+        self.field(events);
+        self.field(number);
+        self.byte(LINE_FEED);
+    }
 }

@@ -6,9 +6,9 @@ use Rattle.lines.specs.Pieces as Pieces
 use Rattle.sheet_text.proofs.Pacing.{Gone}
 use Rattle.sheet_text.proofs.follow.Given as goal
 
-abbrev pub invariant-loop-out : goal.invariant-loop-out
-invariant-loop-out l =
-    Gone l.last (Pieces.follow l.last (length l.initial.out) 0 l.initial.here l.initial.run l.bytes) l.initial.out l.bytes l.here l.run l.out l.used l.written
+abbrev pub invariant-loop-here : goal.invariant-loop-here
+invariant-loop-here l =
+    Gone l.last (Pieces.follow l.last (length l.initial.pen.out.now) 0 l.initial.here l.initial.run l.bytes) l.bytes l.here l.run l.initial.pen l.pen l.used
 
-abbrev pub decreases-loop-out : goal.decreases-loop-out
-decreases-loop-out l = length l.bytes - l.used
+abbrev pub decreases-loop-here : goal.decreases-loop-here
+decreases-loop-here l = length l.bytes - l.used

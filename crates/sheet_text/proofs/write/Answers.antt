@@ -1,12 +1,8 @@
--- `write` is the piece of where the writing stands.
+-- The bytes at hand are nothing to the lines that follow the `h` lines.
 -- Assumes nothing.
 use Rattle.lines.specs.Pieces as Pieces
 use Rattle.sheet_text.proofs.Pacing.{any_bytes}
 use Rattle.sheet_text.proofs.write.Goals as goal
-
-pub returns-in-Reads : goal.returns-in-Reads
-unfolding Pieces.piece
-returns-in-Reads c = rw c.in-Reads.is c.follow.ensures
 
 pub returns-in-Closes : goal.returns-in-Closes
 unfolding Pieces.piece
