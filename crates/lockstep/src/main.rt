@@ -2,7 +2,7 @@
 // What is left at the end is known, and 'ok' is written where it is so. bench/ times this beside the same loop in C.
 #![tactic(auto)]
 
-ghost use Rattle.std.specs.Prelude.{ℕ, ◌*◌, ◌≡◌, length};
+ghost use Rattle.std.specs.Prelude.{ℕ, ◌*◌, ◌≡◌};
 ghost use Rattle.rounds.specs.Limits.{most_processes};
 ghost use Rattle.rounds.specs.Config.{Config, opening};
 ghost use Rattle.rounds.specs.Runs as Runs;
@@ -17,8 +17,13 @@ use std::io;
 // As many processes as there can be.
 const ALL: u8 = MOST_PROCESSES as u8;
 
+// A value for each.
+const VALUES: usize = MOST_PROCESSES as usize;
+
 // The set of all of them.
 const EVERYONE: u32 = (1 << MOST_PROCESSES) - 1;
+
+// The loops of `sends`, `receives`, `all_send` and `all_turn` differ in their call; one over a closure needs a clause on each call's two memories, longer than a loop.
 
 // Process p sends to all.
 fn sends(run: &mut [u32; RUN], p: u8)
@@ -70,8 +75,8 @@ fn round(run: &mut [u32; RUN])
 }
 
 // A run of the most processes with these values, from its opening: every event is accepted, and counted.
-fn night(run: &mut [u32; RUN], values: &[u32])
-    ensures { (v : ℕ → ℕ) → length values.now ≡ most_processes → Given most_processes values.now v
+fn night(run: &mut [u32; RUN], values: &[u32; VALUES])
+    ensures { (v : ℕ → ℕ) → Given most_processes values.now v
         → Shows run.new (after (opening most_processes v) (many_rounds 1890))
         × ((control_of run.new).events ≡ round_events * 1890) }
 {
