@@ -2,7 +2,7 @@
 // What is left at the end is known, and 'ok' is written where it is so. bench/ times this beside the same loop in C.
 #![tactic(auto)]
 
-ghost use Rattle.std.specs.Prelude.{ℕ, ◌*◌, ◌≡◌, length};
+ghost use Rattle.std.specs.Prelude.{ℕ, ◌*◌, ◌≡◌};
 ghost use Rattle.rounds.specs.Limits.{most_processes};
 ghost use Rattle.rounds.specs.Config.{Config, opening};
 ghost use Rattle.rounds.specs.Runs as Runs;
@@ -17,15 +17,20 @@ use std::io;
 // As many processes as there can be.
 const ALL: u8 = MOST_PROCESSES as u8;
 
+// A value for each.
+const VALUES: usize = MOST_PROCESSES as usize;
+
 // The set of all of them.
 const EVERYONE: u32 = (1 << MOST_PROCESSES) - 1;
+
+// The loops of `sends`, `receives`, `all_send` and `all_turn` differ in their call; one over a closure needs a clause on each call's two memories, longer than a loop.
 
 // Process p sends to all.
 fn sends(run: &mut [u32; RUN], p: u8)
     ensures { (c : Config) → Shows run.old c → Shows run.new (after c (Runs.sends most_processes p)) }
 {
     for q in 0..ALL {
-        machine::send(&mut *run, p, q);
+        machine::send(run, p, q);
     }
 }
 
@@ -34,7 +39,7 @@ fn receives(run: &mut [u32; RUN], p: u8)
     ensures { (c : Config) → Shows run.old c → Shows run.new (after c (receives_below most_processes p)) }
 {
     for q in 0..ALL {
-        machine::receive(&mut *run, p, q);
+        machine::receive(run, p, q);
     }
 }
 
@@ -42,15 +47,15 @@ fn receives(run: &mut [u32; RUN], p: u8)
 fn turn(run: &mut [u32; RUN], p: u8)
     ensures { (c : Config) → Shows run.old c → Shows run.new (after c (one_turn p)) }
 {
-    receives(&mut *run, p);
-    machine::step(&mut *run, p);
+    receives(run, p);
+    machine::step(run, p);
 }
 
 fn all_send(run: &mut [u32; RUN])
     ensures { (c : Config) → Shows run.old c → Shows run.new (after c (all_send most_processes)) }
 {
     for p in 0..ALL {
-        sends(&mut *run, p);
+        sends(run, p);
     }
 }
 
@@ -58,26 +63,26 @@ fn all_turn(run: &mut [u32; RUN])
     ensures { (c : Config) → Shows run.old c → Shows run.new (after c (all_turn most_processes)) }
 {
     for p in 0..ALL {
-        turn(&mut *run, p);
+        turn(run, p);
     }
 }
 
 fn round(run: &mut [u32; RUN])
     ensures { (c : Config) → Shows run.old c → Shows run.new (after c one_round) }
 {
-    all_send(&mut *run);
-    all_turn(&mut *run);
+    all_send(run);
+    all_turn(run);
 }
 
 // A run of the most processes with these values, from its opening: every event is accepted, and counted.
-fn night(run: &mut [u32; RUN], values: &[u32])
-    ensures { (v : ℕ → ℕ) → length values.now ≡ most_processes → Given most_processes values.now v
+fn night(run: &mut [u32; RUN], values: &[u32; VALUES])
+    ensures { (v : ℕ → ℕ) → Given most_processes values.now v
         → Shows run.new (after (opening most_processes v) (many_rounds 1890))
         × ((control_of run.new).events ≡ round_events * 1890) }
 {
-    machine::begin(&mut *run, MOST_PROCESSES, values);
+    machine::begin(run, MOST_PROCESSES, values);
     for _ in 0..1890u32 {
-        round(&mut *run);
+        round(run);
     }
 }
 
@@ -85,7 +90,7 @@ fn main(rt: HostRuntime) -> io::Result<()> {
     let values = [7u32, 4, 9, 12, 3, 7, 4, 9, 12, 3, 7, 4, 9, 12, 3, 11];
     let mut run = [0u32; RUN];
     for _ in 0..100u32 {
-        night(&mut run, &values[..]);
+        night(&mut run, &values);
     }
     let first = machine::site(&run, 0);
     if machine::events(&run) == 997920

@@ -1,46 +1,17 @@
--- The words and rows of a report as bytes stored one after the other, each at its place. Assumes nothing.
-use Prim.Native.Nat.{ℕ, zero, suc, ◌+◌, ◌*◌}
+-- The rows of a report as bytes: how many they are, and how they come to stand in front of what is left of a buffer. Assumes nothing.
+use Prim.Native.Nat.{ℕ, zero, suc, ◌+◌, ◌*◌, ◌≤◌}
 use native.Mathlib.Omega.{arith}
 use native.Mathlib.Numerals.{add-one}
-use mathlib.Core.Path.{◌≡◌, refl, sym, ◌∙◌}
-use mathlib.Core.List.{List, [], ◌∷◌, ◌++◌}
-use lib.ListN.{length, set, length-append}
-use lib.Seq.{sets}
+use mathlib.Core.Path.{◌≡◌, refl, ◌∙◌}
+use mathlib.Core.List.{List, ◌++◌}
+use borrow.Rule.Slice.PartMut.{put_mid}
+use lib.ListN.{length, take, drop, length-append}
+use Rattle.std.proofs.Common.{append_assoc, length-take}
+use Rattle.std.proofs.lemmas.List.{take-append-drop, take_at, drop_at, drop-drop, drop-append-le}
 use Rattle.words.specs.declared.Standing.{Standing}
-use Rattle.records.proofs.Stored.{sets_sets}
+use Rattle.records.specs.Stored.{over}
 use Rattle.tongsparkle.specs.Report.{word, row_of, rows_below, row_bytes}
 
--- ---- four bytes, as the code has their places
-pub four_sets : (l : List ℕ) (at a b c d : ℕ) → set (set (set (set l at a) (at + 1) b) (at + 2) c) (at + 3) d ≡ sets l at (a ∷ b ∷ c ∷ d ∷ [])
-four_sets l at a b c d =
-    let one : at + 1 ≡ suc at = omega arith in
-    let two : at + 2 ≡ suc (suc at) = omega arith in
-    let three : at + 3 ≡ suc (suc (suc at)) = omega arith in
-    rw (one, two, three)
-
--- the first of two, where the place of the second is known
-apart : (v l : List ℕ) (at next : ℕ) (w : List ℕ) → at + length v ≡ next → sets l at (v ++ w) ≡ sets (sets l at v) next w
-apart v l at next w e = rw (← e) (sym (sets_sets v l at w))
-
-word_length : (x : ℕ) → length (word x) ≡ 4
-unfolding word
-word_length x = refl
-
--- six words, as the code has their places
-pub six_words : (l : List ℕ) (at : ℕ) (s : Standing)
-    → sets (sets (sets (sets (sets (sets l at (word s.round)) (at + 4) (word s.sending)) (at + 8) (word s.collecting))
-    (at + 12) (word s.pending)) (at + 16) (word s.idle)) (at + 20) (word s.reach)
-    ≡ sets l at (row_of s)
-unfolding row_of
-six_words l at s =
-    sym
-    (apart (word s.round) l at (at + 4) _ (omega (arith, word_length s.round))
-    ∙ apart (word s.sending) _ (at + 4) (at + 8) _ (omega (arith, word_length s.sending))
-    ∙ apart (word s.collecting) _ (at + 8) (at + 12) _ (omega (arith, word_length s.collecting))
-    ∙ apart (word s.pending) _ (at + 12) (at + 16) _ (omega (arith, word_length s.pending))
-    ∙ apart (word s.idle) _ (at + 16) (at + 20) _ (omega (arith, word_length s.idle)))
-
--- ---- the rows
 row_length : (s : Standing) → length (row_of s) ≡ row_bytes
 unfolding row_of word
 row_length s = refl
@@ -50,9 +21,25 @@ unfolding rows_below
 rows_length zero f = refl
 rows_length (suc k) f = length-append (rows_below k f) (row_of (f k)) ∙ rw (rows_length k f, row_length (f k)) (omega arith)
 
+-- ---- a text more behind one that stands in front
+over_next : (v w l : List ℕ) (at n : ℕ) → length v ≡ at → length w ≡ n → put_mid at n (over v l) w ≡ over (v ++ w) l
+unfolding over
+over_next v w l at n e f =
+    let whole : length (v ++ w) ≡ at + n = omega (arith, length-append v w) in
+    rw (take_at v (drop (length v) l) at e, drop_at v (drop (length v) l) at e, whole, e, drop-drop n at l, append_assoc v w (drop (at + n) l)) refl
+
 -- one row more, at its place
-pub next_row : (l : List ℕ) (k : ℕ) (f : ℕ → Standing) → sets (sets l 0 (rows_below k f)) (row_bytes * k) (row_of (f k)) ≡ sets l 0 (rows_below (k + 1) f)
+pub next_row : (l x y : List ℕ) (k at n : ℕ) (f : ℕ → Standing) → x ≡ over (rows_below k f) l → y ≡ row_of (f k) → at ≡ row_bytes * k → n ≡ row_bytes
+    → put_mid at n x y ≡ over (rows_below (k + 1) f) l
 unfolding rows_below
-next_row l k f =
-    let place : row_bytes * k ≡ 0 + length (rows_below k f) = omega (arith, rows_length k f) in
-    rw (place, add-one k) (sets_sets (rows_below k f) l 0 (row_of (f k)))
+next_row l x y k at n f before new place whole =
+    rw (before, new, add-one k)
+    (over_next (rows_below k f) (row_of (f k)) l at n (omega (arith, rows_length k f)) (omega (arith, row_length (f k))))
+
+-- ---- a text in front of the first n bytes is one in front of them all
+pub over_front : (w l : List ℕ) (n : ℕ) → length w ≤ n → n ≤ length l → over w (take n l) ++ drop n l ≡ over w l
+unfolding over
+over_front w l n few room =
+    let long : length w ≤ length (take n l) = omega (arith, length-take n l) in
+    append_assoc w (drop (length w) (take n l)) (drop n l)
+    ∙ rw (← drop-append-le (length w) (take n l) (drop n l) long, take-append-drop n l) refl

@@ -1,8 +1,5 @@
 -- What is left to show of `all_send`; Invariants.antt says how it goes.
 -- Assumes nothing.
-use native.Mathlib.Omega.{arith}
-use mathlib.Core.Path.{◌≡◌}
-use Rattle.rounds.specs.Limits.{most_processes}
 use Rattle.rounds.specs.Runs.{after}
 use Rattle.lockstep.specs.LockStep.{all_send}
 use Rattle.lockstep.proofs.Joining.{all_sent_next}
@@ -14,9 +11,3 @@ loop-p-init c = λ d s. s
 
 pub loop-p-preserved : goal.loop-p-preserved
 loop-p-preserved c = all_sent_next c.loop-p.p c.loop-p.invariant c.sends.ensures
-
-pub returns : goal.returns
-returns c =
-    let l = c.loop-p in
-    let e : l.p ≡ most_processes = omega arith in
-    rw e at l.invariant

@@ -1,8 +1,5 @@
 -- What is left to show of `receives`; Invariants.antt says how it goes.
 -- Assumes nothing.
-use native.Mathlib.Omega.{arith}
-use mathlib.Core.Path.{◌≡◌}
-use Rattle.rounds.specs.Limits.{most_processes}
 use Rattle.rounds.specs.Runs.{after}
 use Rattle.lockstep.specs.LockStep.{receives_below}
 use Rattle.lockstep.proofs.Joining.{received_next}
@@ -14,9 +11,3 @@ loop-q-init c = λ d s. s
 
 pub loop-q-preserved : goal.loop-q-preserved
 loop-q-preserved c = received_next c.loop-q.q c.args.p c.loop-q.invariant (λ d s. (c.receive.ensures.meaning d s).shows)
-
-pub returns : goal.returns
-returns c =
-    let l = c.loop-q in
-    let e : l.q ≡ most_processes = omega arith in
-    rw e at l.invariant

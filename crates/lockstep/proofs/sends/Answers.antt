@@ -1,8 +1,5 @@
 -- What is left to show of `sends`; Invariants.antt says how it goes.
 -- Assumes nothing.
-use native.Mathlib.Omega.{arith}
-use mathlib.Core.Path.{◌≡◌}
-use Rattle.rounds.specs.Limits.{most_processes}
 use Rattle.rounds.specs.Runs.{after, sends}
 use Rattle.lockstep.proofs.Joining.{sent_next}
 use Rattle.lockstep.proofs.sends.Goals as goal
@@ -13,9 +10,3 @@ loop-q-init c = λ d s. s
 
 pub loop-q-preserved : goal.loop-q-preserved
 loop-q-preserved c = sent_next c.loop-q.q c.args.p c.loop-q.invariant (λ d s. (c.send.ensures.meaning d s).shows)
-
-pub returns : goal.returns
-returns c =
-    let l = c.loop-q in
-    let e : l.q ≡ most_processes = omega arith in
-    rw e at l.invariant
