@@ -14,8 +14,10 @@ ghost use Rattle.examples.specs.Expected as Expected;
 
 use machine::RUN;
 use rounds::Event;
-use std::io;
+use std::{fmt, io};
 use words::Standing;
+
+// What is found is kept as numbers, here and below: document 01 states its examples in numbers, and these are what is written.
 
 // The numbers of example 10: the openings, and what is put to the last of them.
 #[derive(Clone, Copy)]
@@ -61,23 +63,23 @@ struct Twelve {
 fn begin(run: &mut [u32; RUN], n: u32, values: &[u32]) -> u32
     ensures { (result ≡ number_of (open_verdict n (length values.now))) × (open_verdict n (length values.now) ≡ Accepted → (v : ℕ → ℕ) → Given n values.now v → Shows run.new (opening n v)) }
 {
-    rounds::number(machine::begin(&mut *run, n, values))
+    rounds::number(machine::begin(run, n, values))
 }
 
 // Puts the event to the machine, and gives the number of its answer.
 fn put(run: &mut [u32; RUN], e: Event) -> u32
     ensures { (c : Config) → Shows run.old c → (result ≡ number c.control e) × Shows run.new (apply c e) }
 {
-    let answer = machine::apply(&mut *run, e);
+    let answer = machine::apply(run, e);
     rounds::number(words::verdict(answer))
 }
 
 // Two processes, with the values 7 and 4.
+#[tactic(auto, unfolding(rounds::specs::Verdicts::refuse, rounds::specs::Verdicts::open_verdict, rounds::specs::Runs::value_at))]
 fn begin_two(run: &mut [u32; RUN])
     ensures { Shows run.new (opening 2 (value_at seven_and_four)) }
 {
-    let values = [7u32, 4];
-    begin(&mut *run, 2, &values[..]);
+    begin(run, 2, &[7, 4]);
 }
 
 // N = 0 and N = 17: 1. N = 16: accepted. Process number 16 there: 2.
@@ -86,16 +88,16 @@ fn example_10(run: &mut [u32; RUN]) -> Ten
 {
     let enough = [9u32; 16];
     let many = [9u32; 17];
-    let none = begin(&mut *run, 0, &enough[..]);
-    let seventeen = begin(&mut *run, 17, &many[..]);
-    let uneven = begin(&mut *run, 16, &many[..]);
-    let sixteen = begin(&mut *run, 16, &enough[..]);
-    let inside = put(&mut *run, Event::Send(15, 15));
-    let send = put(&mut *run, Event::Send(15, 16));
-    let receive = put(&mut *run, Event::Receive(16, 15));
-    let step = put(&mut *run, Event::Step(16));
-    let broadcast = put(&mut *run, Event::Broadcast(16));
-    let events = machine::events(&*run);
+    let none = begin(run, 0, &enough);
+    let seventeen = begin(run, 17, &many);
+    let uneven = begin(run, 16, &many);
+    let sixteen = begin(run, 16, &enough);
+    let inside = put(run, Event::Send(15, 15));
+    let send = put(run, Event::Send(15, 16));
+    let receive = put(run, Event::Receive(16, 15));
+    let step = put(run, Event::Step(16));
+    let broadcast = put(run, Event::Broadcast(16));
+    let events = machine::events(run);
     Ten {
         none,
         seventeen,
@@ -114,17 +116,17 @@ fn example_10(run: &mut [u32; RUN]) -> Ten
 fn example_11(run: &mut [u32; RUN]) -> Eleven
     ensures { result ≡ Expected.eleven }
 {
-    begin_two(&mut *run);
-    let first = put(&mut *run, Event::Broadcast(1));
-    let step = put(&mut *run, Event::Step(1));
-    let second = put(&mut *run, Event::Broadcast(1));
-    let own = put(&mut *run, Event::Receive(1, 1));
-    let before = machine::site(&*run, 1);
-    let late = put(&mut *run, Event::Send(0, 1));
-    let after = machine::site(&*run, 1);
-    let receive = put(&mut *run, Event::Receive(1, 0));
-    let more = put(&mut *run, Event::Send(0, 0));
-    let later = machine::site(&*run, 1);
+    begin_two(run);
+    let first = put(run, Event::Broadcast(1));
+    let step = put(run, Event::Step(1));
+    let second = put(run, Event::Broadcast(1));
+    let own = put(run, Event::Receive(1, 1));
+    let before = machine::site(run, 1);
+    let late = put(run, Event::Send(0, 1));
+    let after = machine::site(run, 1);
+    let receive = put(run, Event::Receive(1, 0));
+    let more = put(run, Event::Send(0, 0));
+    let later = machine::site(run, 1);
     Eleven {
         first,
         step,
@@ -143,12 +145,12 @@ fn example_11(run: &mut [u32; RUN]) -> Eleven
 fn example_12(run: &mut [u32; RUN]) -> Twelve
     ensures { result ≡ Expected.twelve }
 {
-    begin_two(&mut *run);
-    let send = put(&mut *run, Event::Send(0, 1));
-    let broadcast = put(&mut *run, Event::Broadcast(0));
-    let events = machine::events(&*run);
-    let receive = put(&mut *run, Event::Receive(0, 0));
-    let again = put(&mut *run, Event::Send(0, 0));
+    begin_two(run);
+    let send = put(run, Event::Send(0, 1));
+    let broadcast = put(run, Event::Broadcast(0));
+    let events = machine::events(run);
+    let receive = put(run, Event::Receive(0, 0));
+    let again = put(run, Event::Send(0, 0));
     Twelve {
         send,
         broadcast,
@@ -158,58 +160,70 @@ fn example_12(run: &mut [u32; RUN]) -> Twelve
     }
 }
 
-// A line: what is asked, and the number found.
-fn say(rt: &impl Print, what: &str, found: u32) -> io::Result<()> {
-    println!(rt; "{what}{found}")
+impl fmt::Display for Ten {
+    fn fmt<W: fmt::Write>(&self, f: &mut fmt::Formatter<W>) -> fmt::Result {
+        writeln!(f, "10. N = 0: {}", self.none)?;
+        writeln!(f, "10. N = 17: {}", self.seventeen)?;
+        writeln!(f, "10. N = 16 with 17 values: {}", self.uneven)?;
+        writeln!(f, "10. N = 16: {}", self.sixteen)?;
+        writeln!(f, "10. send from 15 to 15: {}", self.inside)?;
+        writeln!(f, "10. send from 15 to 16: {}", self.send)?;
+        writeln!(f, "10. receive by 16 from 15: {}", self.receive)?;
+        writeln!(f, "10. step of 16: {}", self.step)?;
+        writeln!(f, "10. broadcast of 16: {}", self.broadcast)?;
+        writeln!(f, "10. accepted events: {}", self.events)
+    }
 }
 
-// A line: the round and the counts S, C, P, I of a process.
-fn show(rt: &impl Print, what: &str, s: Standing) -> io::Result<()> {
-    println!(rt;
-        "{what} {} {} {} {} {}",
-        s.round, s.sending, s.collecting, s.pending, s.idle
-    )
+impl fmt::Display for Eleven {
+    fn fmt<W: fmt::Write>(&self, f: &mut fmt::Formatter<W>) -> fmt::Result {
+        writeln!(f, "11. broadcast of 1 at round 1: {}", self.first)?;
+        writeln!(f, "11. step of 1: {}", self.step)?;
+        writeln!(f, "11. broadcast of 1 at round 2: {}", self.second)?;
+        writeln!(f, "11. receive by 1 from 1: {}", self.own)?;
+        writeln!(f, "11. round, S, C, P, I of 1: {}", Stages(self.before))?;
+        writeln!(
+            f,
+            "11. send from 0 at round 1 to 1 at round 2: {}",
+            self.late
+        )?;
+        writeln!(f, "11. round, S, C, P, I of 1: {}", Stages(self.after))?;
+        writeln!(f, "11. receive by 1 from 0: {}", self.receive)?;
+        writeln!(f, "11. send from 0 to 0: {}", self.more)?;
+        writeln!(f, "11. round, S, C, P, I of 1: {}", Stages(self.later))
+    }
 }
 
-fn say_10(rt: &impl Print, t: Ten) -> io::Result<()> {
-    say(rt, "10. N = 0: ", t.none)?;
-    say(rt, "10. N = 17: ", t.seventeen)?;
-    say(rt, "10. N = 16 with 17 values: ", t.uneven)?;
-    say(rt, "10. N = 16: ", t.sixteen)?;
-    say(rt, "10. send from 15 to 15: ", t.inside)?;
-    say(rt, "10. send from 15 to 16: ", t.send)?;
-    say(rt, "10. receive by 16 from 15: ", t.receive)?;
-    say(rt, "10. step of 16: ", t.step)?;
-    say(rt, "10. broadcast of 16: ", t.broadcast)?;
-    say(rt, "10. accepted events: ", t.events)
+impl fmt::Display for Twelve {
+    fn fmt<W: fmt::Write>(&self, f: &mut fmt::Formatter<W>) -> fmt::Result {
+        writeln!(f, "12. send from 0 to 1: {}", self.send)?;
+        writeln!(f, "12. broadcast of 0: {}", self.broadcast)?;
+        writeln!(f, "12. accepted events: {}", self.events)?;
+        writeln!(f, "12. receive by 0 from 0: {}", self.receive)?;
+        writeln!(f, "12. send from 0 to 0: {}", self.again)
+    }
 }
 
-fn say_11(rt: &impl Print, t: Eleven) -> io::Result<()> {
-    say(rt, "11. broadcast of 1 at round 1: ", t.first)?;
-    say(rt, "11. step of 1: ", t.step)?;
-    say(rt, "11. broadcast of 1 at round 2: ", t.second)?;
-    say(rt, "11. receive by 1 from 1: ", t.own)?;
-    show(rt, "11. round, S, C, P, I of 1:", t.before)?;
-    say(rt, "11. send from 0 at round 1 to 1 at round 2: ", t.late)?;
-    show(rt, "11. round, S, C, P, I of 1:", t.after)?;
-    say(rt, "11. receive by 1 from 0: ", t.receive)?;
-    say(rt, "11. send from 0 to 0: ", t.more)?;
-    show(rt, "11. round, S, C, P, I of 1:", t.later)
-}
+// The round and the counts S, C, P, I of a process.
+#[derive(Clone, Copy)]
+struct Stages(Standing);
 
-fn say_12(rt: &impl Print, t: Twelve) -> io::Result<()> {
-    say(rt, "12. send from 0 to 1: ", t.send)?;
-    say(rt, "12. broadcast of 0: ", t.broadcast)?;
-    say(rt, "12. accepted events: ", t.events)?;
-    say(rt, "12. receive by 0 from 0: ", t.receive)?;
-    say(rt, "12. send from 0 to 0: ", t.again)
+impl fmt::Display for Stages {
+    fn fmt<W: fmt::Write>(&self, f: &mut fmt::Formatter<W>) -> fmt::Result {
+        let s = self.0;
+        write!(
+            f,
+            "{} {} {} {} {}",
+            s.round, s.sending, s.collecting, s.pending, s.idle
+        )
+    }
 }
 
 fn main(rt: HostRuntime) -> io::Result<()> {
-    let mut run = [0u32; RUN];
+    let mut run = [0; RUN];
     let early = put(&mut run, Event::Step(0));
-    say(&rt, "Before any opening, step of 0: ", early)?;
-    say_10(&rt, example_10(&mut run))?;
-    say_11(&rt, example_11(&mut run))?;
-    say_12(&rt, example_12(&mut run))
+    println!(rt; "Before any opening, step of 0: {early}")?;
+    print!(rt; "{}", example_10(&mut run))?;
+    print!(rt; "{}", example_11(&mut run))?;
+    print!(rt; "{}", example_12(&mut run))
 }

@@ -7,7 +7,7 @@ ghost use Rattle.listing.specs.Expected as Expected;
 
 use listed::{Event, Kind};
 use machine::RUN;
-use std::io;
+use std::{fmt, io};
 use voting::Choice;
 use words::Standing;
 
@@ -19,6 +19,8 @@ struct One {
     first: Standing,
     second: Standing,
 }
+
+// A constructor for each kind, and not one that takes the kind: so each event of the example is written with the numbers that its kind needs.
 
 // Process p sends to q.
 fn send(p: u8, q: u8) -> Event
@@ -57,7 +59,6 @@ fn step(p: u8) -> Event
 fn example_1(run: &mut [u32; RUN]) -> One
     ensures { result ≡ Expected.one }
 {
-    let values = [7u32, 4];
     let events = [
         send(0, 0),
         send(0, 1),
@@ -66,53 +67,60 @@ fn example_1(run: &mut [u32; RUN]) -> One
         receive(0, 1),
         step(0),
     ];
-    let number = listed::replay_six(&mut *run, 2, &values[..], events);
-    let accepted = machine::events(&*run);
-    let first = machine::site(&*run, 0);
-    let second = machine::site(&*run, 1);
+    let number = listed::replay_six(run, 2, &[7, 4], events);
     One {
         number,
-        events: accepted,
-        first,
-        second,
+        events: machine::events(run),
+        first: machine::site(run, 0),
+        second: machine::site(run, 1),
     }
 }
 
 // A vote or a decision, and a dash where there is none.
-fn choice(rt: &impl Print, c: Choice) -> io::Result<()> {
-    match c {
-        Choice::Absent => print!(rt; " -"),
-        Choice::Present(x) => print!(rt; " {x}"),
+#[derive(Clone, Copy)]
+struct Shown(Choice);
+
+impl fmt::Display for Shown {
+    fn fmt<W: fmt::Write>(&self, f: &mut fmt::Formatter<W>) -> fmt::Result {
+        match self.0 {
+            Choice::Absent => f.write_str("-"),
+            Choice::Present(x) => write!(f, "{x}"),
+        }
     }
 }
 
 // The `w` line of process p: its round, the counts S, C, P, I and its reach.
-fn waits(rt: &impl Print, p: u32, s: Standing) -> io::Result<()> {
-    println!(rt;
+fn waits<W: fmt::Write>(f: &mut fmt::Formatter<W>, p: u32, s: Standing) -> fmt::Result {
+    writeln!(
+        f,
         "w {p} {} {} {} {} {} {:04x}",
         s.round, s.sending, s.collecting, s.pending, s.idle, s.reach
     )
 }
 
 // The `v` line of process p: its value, vote and decision.
-fn holds(rt: &impl Print, p: u32, s: Standing) -> io::Result<()> {
-    print!(rt; "v {p} {}", s.value)?;
-    choice(rt, s.vote)?;
-    choice(rt, s.decision)?;
-    println!(rt; "")
+fn holds<W: fmt::Write>(f: &mut fmt::Formatter<W>, p: u32, s: Standing) -> fmt::Result {
+    writeln!(
+        f,
+        "v {p} {} {} {}",
+        s.value,
+        Shown(s.vote),
+        Shown(s.decision)
+    )
 }
 
-// The `e` line: the accepted events and the number.
-fn ends(rt: &impl Print, events: u32, number: u32) -> io::Result<()> {
-    println!(rt; "e {events} {number}")
+// The lines of the sheet behind its `h` lines.
+impl fmt::Display for One {
+    fn fmt<W: fmt::Write>(&self, f: &mut fmt::Formatter<W>) -> fmt::Result {
+        waits(f, 0, self.first)?;
+        waits(f, 1, self.second)?;
+        holds(f, 0, self.first)?;
+        holds(f, 1, self.second)?;
+        writeln!(f, "e {} {}", self.events, self.number)
+    }
 }
 
 fn main(rt: HostRuntime) -> io::Result<()> {
-    let mut run = [0u32; RUN];
-    let found = example_1(&mut run);
-    waits(&rt, 0, found.first)?;
-    waits(&rt, 1, found.second)?;
-    holds(&rt, 0, found.first)?;
-    holds(&rt, 1, found.second)?;
-    ends(&rt, found.events, found.number)
+    let mut run = [0; RUN];
+    print!(rt; "{}", example_1(&mut run))
 }

@@ -2,10 +2,9 @@
 // sheet_text gives it; here they are only fetched, from a buffer of the trace, and passed on.
 #![tactic(auto)]
 
-ghost use Rattle.std.specs.Prelude.{◌+◌, ◌≤◌, ◌<◌, ◌≡◌, length, drop};
+ghost use Rattle.std.specs.Prelude.{◌+◌, ◌≤◌, ◌<◌, ◌≡◌, length, drop, IfSome, OnSome};
 ghost use Rattle.records.specs.Records.{longest};
 ghost use Rattle.lines.specs.declared.Wants.TheVariants as Wants;
-ghost use Rattle.lines.specs.Pieces.{line_room};
 ghost use Rattle.lines.specs.Claims.{ahead};
 
 use lines::{Piece, Stand, Wants};
@@ -17,151 +16,104 @@ const INPUT: usize = 49152;
 
 const OUTPUT: usize = 16384;
 
-// Where the program stands: the writing of the sheet, how many bytes of the trace it holds, and whether it is over.
-#[derive(Clone, Copy)]
-struct Seat {
+// A sheet that is being written: where the writing stands, the memory of the run, and the buffer that the text goes through.
+#[derive(Drop)]
+struct Writing {
     stand: Stand,
-    held: usize,
-    over: bool,
+    run: [u32; RUN],
+    out: [u8; OUTPUT],
 }
 
-// One piece, written out. Where that fails, nothing more is wanted; a reader that has enough ends the program without a word.
-fn print(
-    rt: &(impl Print + Eprint),
-    run: &mut [u32; RUN],
-    stand: Stand,
-    bytes: &[u8],
-    last: bool,
-    out: &mut [u8],
-) -> Piece
-    requires { line_room ≤ length out.old }
-    ensures { (result.used ≤ length bytes.now)
-        × (result.wants ≡ Wants.Input → length bytes.now < result.used + longest)
-        × (result.wants ≡ Wants.Room → ahead result.stand run.new (drop result.used bytes.now) < ahead stand run.old bytes.now) }
-{
-    let p = sheet_text::write(run, stand, bytes, last, out);
-    let n = p.written;
-    match rt.write_all(&out[..n]) {
-        Ok(()) => return p,
-        Err(e) => {
-            if e.kind() != ErrorKind::BrokenPipe {
-                let _ = rt.eprintln("sheet: the sheet cannot be written");
+impl Writing {
+    // One piece, written out; none where that fails. A reader that has enough ends the program without a word.
+    fn print(&mut self, rt: &(impl Print + Eprint), bytes: &[u8], last: bool) -> Option<Piece>
+        ensures within { IfSome result (λ p. p.used ≤ length bytes.now) }
+        ensures short { IfSome result (λ p. p.wants ≡ Wants.Input → length bytes.now < p.used + longest) }
+        ensures nearer { IfSome result (λ p. p.wants ≡ Wants.Room → ahead self.new.stand self.new.run (drop p.used bytes.now) < ahead self.old.stand self.old.run bytes.now) }
+    {
+        let p = sheet_text::write(&mut self.run, self.stand, bytes, last, &mut self.out);
+        self.stand = p.stand;
+        match rt.write_all(&self.out[..p.written]) {
+            Ok(()) => Some(p),
+            Err(e) => {
+                if e.kind() != ErrorKind::BrokenPipe {
+                    let _ = eprintln!(rt; "sheet: the sheet cannot be written");
+                }
+                None
             }
         }
     }
-    Piece {
-        used: p.used,
-        written: n,
-        stand: p.stand,
-        wants: Wants::Nothing,
-    }
-}
 
-// All pieces of the bytes at hand, until more of the trace is wanted or nothing.
-fn print_all(
-    rt: &(impl Print + Eprint),
-    run: &mut [u32; RUN],
-    stand: Stand,
-    bytes: &[u8],
-    last: bool,
-    out: &mut [u8],
-) -> Piece
-    requires { line_room ≤ length out.old }
-    ensures { (result.used ≤ length bytes.now) × (result.wants ≡ Wants.Input → length bytes.now < result.used + longest) }
-{
-    let mut used: usize = 0;
-    let mut here = stand;
-    loop {
-        let p = print(rt, &mut *run, here, &bytes[used..], last, out);
-        used += p.used;
-        here = p.stand;
-        let wants = p.wants;
-        match wants {
-            Wants::Room => {}
-            Wants::Input | Wants::Nothing => {
-                return Piece {
-                    used,
-                    written: 0,
-                    stand: here,
-                    wants,
-                };
+    // All pieces of the bytes at hand, and how many of these are used where more of the trace is wanted; none where the sheet is over.
+    fn print_all(&mut self, rt: &(impl Print + Eprint), bytes: &[u8], last: bool) -> Option<usize>
+        ensures within { IfSome result (λ used. used ≤ length bytes.now) }
+        ensures short { IfSome result (λ used. length bytes.now < used + longest) }
+    {
+        let mut used: usize = 0;
+        loop {
+            let p = self.print(rt, &bytes[used..], last)?;
+            used += p.used;
+            match p.wants {
+                Wants::Room => {}
+                Wants::Input => return Some(used),
+                Wants::Nothing => return None,
             }
         }
     }
 }
 
 // Reads once, behind the bytes that are held, and answers how many are held then. Where that fails the trace ends there.
-fn read_more(rt: &impl Eprint, trace: &mut impl Read, input: &mut [u8], held: usize) -> usize
+fn read_more(rt: &impl Eprint, trace: &mut impl Read, input: &mut [u8; INPUT], held: usize) -> usize
     requires { held < length input.old }
     ensures { result ≤ length input.new }
 {
     match trace.read(&mut input[held..]) {
         Ok(n) => held + n,
         Err(_) => {
-            let _ = rt.eprintln(
-                "sheet: the trace cannot be read further, and is taken to end there",
+            let _ = eprintln!(rt;
+                "sheet: the trace cannot be read further, and is taken to end there"
             );
             held
         }
     }
 }
 
-// Reads once, writes all pieces, and keeps the bytes that are not used. Where nothing comes, the trace has ended.
+// Reads once, writes all pieces, and keeps the bytes that are not used: how many these are, or none where the sheet is over. Where nothing comes, the trace
+// has ended.
 fn feed(
     rt: &(impl Print + Eprint),
     trace: &mut impl Read,
-    run: &mut [u32; RUN],
-    input: &mut [u8],
-    out: &mut [u8],
-    stand: Stand,
+    sheet: &mut Writing,
+    input: &mut [u8; INPUT],
     held: usize,
-) -> Seat
-    requires { (held < longest) × (longest ≤ length input.old) × (line_room ≤ length out.old) }
-    ensures { result.held < longest }
+) -> Option<usize>
+    requires { held < longest }
+    ensures { IfSome result (λ kept. kept < longest) }
 {
     let filled = read_more(rt, trace, input, held);
-    let last = filled == held;
-    let p = print_all(rt, run, stand, &input[..filled], last, out);
-    match p.wants {
-        Wants::Input => Seat {
-            stand: p.stand,
-            held: sheet_text::keep(input, p.used, filled),
-            over: false,
-        },
-        Wants::Room | Wants::Nothing => Seat {
-            stand: p.stand,
-            held: 0,
-            over: true,
-        },
-    }
+    let used = sheet.print_all(rt, &input[..filled], filled == held)?;
+    Some(sheet_text::keep(input, used, filled))
 }
 
 // A proved loop has to end, and nothing says that the input does. So the loop counts its turns, up to a number that no run comes to.
-fn feed_all(
-    rt: &(impl Print + Eprint),
-    trace: &mut impl Read,
-    run: &mut [u32; RUN],
-    input: &mut [u8],
-    out: &mut [u8],
-)
-    requires { (longest ≤ length input.old) × (line_room ≤ length out.old) }
-{
-    let mut stand = sheet_text::begin(&mut *run);
+fn feed_all(rt: &(impl Print + Eprint), trace: &mut impl Read) {
+    let mut run = [0; RUN];
+    let stand = sheet_text::begin(&mut run);
+    let mut sheet = Writing {
+        stand,
+        run,
+        out: [0; OUTPUT],
+    };
+    let mut input = [0; INPUT];
     let mut held: usize = 0;
     for _ in 0..u64::MAX {
-        let s = feed(rt, trace, &mut *run, input, out, stand, held);
-        if s.over {
+        let Some(kept) = feed(rt, trace, &mut sheet, &mut input, held) else {
             return;
-        }
-        stand = s.stand;
-        held = s.held;
+        };
+        held = kept;
     }
 }
 
 fn main(rt: HostRuntime) {
-    let mut run = [0u32; RUN];
-    let mut input = [0u8; INPUT];
-    let mut out = [0u8; OUTPUT];
-    let mut trace = rt.stdin();
-    feed_all(&rt, &mut trace, &mut run, &mut input, &mut out);
+    feed_all(&rt, &mut rt.stdin());
 }

@@ -1,2 +1,0 @@
--- The law that the proofs of the examples share.
-pub mod Numbered

@@ -1,2 +1,0 @@
--- What the program's functions rest on.
-pub mod Printing
