@@ -7,8 +7,7 @@ use mathlib.Core.Bool.{Bool, true, false, cond}
 use mathlib.Core.List.{List, [], ◌∷◌, ◌++◌, append_assoc, append-nil}
 use borrow.Author.Tests.{ne_eqb}
 use lib.Dec.{ltb, eqb}
-use Rattle.voting.specs.declared.Choice.{Choice}
-use Rattle.voting.specs.declared.Choice.TheVariants.{Absent, Present}
+use Rattle.std.specs.Prelude.{Option, Some, None}
 use Rattle.rounds.specs.Config.{Config}
 use Rattle.rounds.specs.Runs.{Report, value_at}
 use Rattle.rounds.specs.Claims.{Agree}
@@ -58,10 +57,10 @@ set_inner : (s : ℕ) → Inner (set_field s)
 unfolding Inner set_field hex
 set_inner s = (refl, (glyph_inner _, (glyph_inner _, (glyph_inner _, (glyph_inner _, tt)))))
 
-choice_inner : (c : Choice) → Inner (choice_field c)
+choice_inner : (c : Option ℕ) → Inner (choice_field c)
 unfolding Inner choice_field
-choice_inner Absent = (refl, (refl, tt))
-choice_inner (Present x) = field_inner x
+choice_inner None = (refl, (refl, tt))
+choice_inner (Some x) = field_inner x
 
 -- ---- the rest of a line: bytes without a line feed, and a line feed
 record Tail (l : List ℕ) : Type 0 where

@@ -11,10 +11,9 @@ use Rattle.words.specs.Layout.{Mem}
 use Rattle.words.specs.Spelled.{control_of}
 use Rattle.records.specs.declared.Place.{Place}
 use Rattle.records.specs.declared.Place.TheVariants.{First, Later, Behind}
-use Rattle.trace.specs.declared.Told.{Told}
-use Rattle.trace.specs.declared.Told.TheVariants.{Nothing}
-use Rattle.trace.specs.declared.Turn.{Turn}
-use Rattle.trace.specs.declared.Turn.TheVariants.{More, Goes, Ends}
+use Rattle.trace.specs.declared.Gone.{Gone}
+use Rattle.trace.specs.Turns.{Turn, Goes}
+use Rattle.std.specs.Prelude.{Some, None, Ok, Err}
 use Rattle.trace.specs.Turns.{turn, turned}
 use Rattle.trace.specs.Haste.{hasty_extent, stays, haste}
 use Rattle.trace.proofs.Looping.{goes_within}
@@ -51,12 +50,12 @@ next_drop : (last : Bool) (room k : ℕ) (pl : Place) (m : Mem) (b : ℕ) (bs : 
 next_drop last room k pl m b bs l =
     behind_drop last room (k - 1) pl m bs ∙ ap (λ (w : List ℕ). follow last room 0 pl m w) (less_one k b bs l)
 
-on_same : (last : Bool) (pl : Place) (m : Mem) (t : Turn) (f g : ℕ → Place → Told → Part)
-    → ((k : ℕ) (place : Place) (y : Told) → t ≡ Goes k place y → f k place y ≡ g k place y) → on_turn last pl m t f ≡ on_turn last pl m t g
+on_same : (last : Bool) (pl : Place) (m : Mem) (t : Turn) (f h : Gone → Part)
+    → ((g : Gone) → t ≡ Ok (Some g) → f g ≡ h g) → on_turn last pl m t f ≡ on_turn last pl m t h
 unfolding on_turn
-on_same last pl m More f g same = refl
-on_same last pl m (Goes k place y) f g same = ap (adds k (told_text y)) (same k place y refl)
-on_same last pl m (Ends x) f g same = refl
+on_same last pl m (Ok None) f h same = refl
+on_same last pl m (Ok (Some g)) f h same = ap (adds g.used (told_text g.told)) (same g refl)
+on_same last pl m (Err x) f h same = refl
 
 module _ (last : Bool) (room : ℕ) (pl : Place) (m : Mem) where
   pub full_is : (w : List ℕ) → room < line_room → follow last room 0 pl m w ≡ rests (Reads pl) m wants.Room
@@ -66,7 +65,7 @@ module _ (last : Bool) (room : ℕ) (pl : Place) (m : Mem) where
 
   pub turn_is : (w : List ℕ) → line_room ≤ room
       → follow last room 0 pl m w
-      ≡ on_turn last pl (turned pl m w) (turn pl (control_of m) w) (λ k place y. follow last (room - length (told_text y)) 0 place (turned pl m w) (drop k w))
+      ≡ on_turn last pl (turned pl m w) (turn pl (control_of m) w) (λ g. follow last (room - length (told_text g.told)) 0 g.place (turned pl m w) (drop g.used w))
   unfolding follow on_turn
   turn_is [] l =
       let more = no_bytes pl (control_of m) in
@@ -74,12 +73,12 @@ module _ (last : Bool) (room : ℕ) (pl : Place) (m : Mem) where
   turn_is (b ∷ bs) l =
       rw (le-ltb room line_room l)
       (on_same last pl (turned pl m (b ∷ bs)) (turn pl (control_of m) (b ∷ bs)) _ _
-      (λ k place y e. next_drop last (room - length (told_text y)) k place (turned pl m (b ∷ bs)) b bs (goes_within pl (control_of m) (b ∷ bs) e).0))
+      (λ g e. next_drop last (room - length (told_text g.told)) g.used g.place (turned pl m (b ∷ bs)) b bs (goes_within pl (control_of m) (b ∷ bs) e).0))
 
   -- where nothing is told, the room stays
-  nothing_told : (w : List ℕ) → turn Later (control_of m) w ≡ Goes hasty_extent Later Nothing
+  nothing_told : (w : List ℕ) → turn Later (control_of m) w ≡ Goes hasty_extent Later None
       → on_turn last Later (turned Later m w) (turn Later (control_of m) w)
-      (λ k place y. follow last (room - length (told_text y)) 0 place (turned Later m w) (drop k w))
+      (λ g. follow last (room - length (told_text g.told)) 0 g.place (turned Later m w) (drop g.used w))
       ≡ adds hasty_extent [] (follow last room 0 Later (turned Later m w) (drop hasty_extent w))
   unfolding on_turn told_text
   nothing_told w e = let same : room - 0 ≡ room = omega arith in rw (e, same)
@@ -96,7 +95,7 @@ haste_part last x text room wide w used Later m e =
     rw (← drop-drop (haste Later m (drop used w)).used used w)
     (haste_kept (λ u n v. x ≡ adds u text (follow last room 0 Later n v)) hasty_part used m (drop used w) e)
   where
-    hasty_part : (u : ℕ) (n : Mem) (v : List ℕ) → turn Later (control_of n) v ≡ Goes hasty_extent Later Nothing → hasty_extent ≤ length v
+    hasty_part : (u : ℕ) (n : Mem) (v : List ℕ) → turn Later (control_of n) v ≡ Goes hasty_extent Later None → hasty_extent ≤ length v
         → x ≡ adds u text (follow last room 0 Later n v)
         → x ≡ adds (u + hasty_extent) text (follow last room 0 Later (turned Later n v) (drop hasty_extent v))
     hasty_part u n v t l h =

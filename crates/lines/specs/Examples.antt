@@ -9,7 +9,7 @@ use Rattle.words.specs.Shows.{standing}
 use Rattle.words.specs.Examples.{memory}
 use Rattle.records.specs.Examples.{input}
 use Rattle.trace.specs.Examples.{comes_to, open_two, send, receive, step, broadcast, end}
-use Rattle.trace.specs.Turns.{tells, on_answer, on_opening, turn_on, turn, words_on, turned}
+use Rattle.trace.specs.Turns.{tells, passes, on_answer, on_opening, turn_on, turn, words_on, turned}
 use Rattle.lines.specs.declared.Stand.{Stand}
 use Rattle.lines.specs.Ascii.{ascii}
 use Rattle.lines.specs.Text.{glyph, digits, decimal, hex, field, set_field, choice_field, h_line, w_line, v_line, e_line}
@@ -36,7 +36,7 @@ pieces (suc n) room s m held =
     x.text ++ pieces n room x.stand x.words (drop x.used held)
 
 unfoldable pub writes : ℕ → ℕ → List ℕ → String → Bool
-unfolding shows memory turn_on turn words_on turned on_answer on_opening tells rests adds told_text waits on_turn follow closing_line closing_count closing piece pieces first
+unfolding shows memory turn_on turn words_on turned passes on_answer on_opening tells rests adds told_text waits on_turn follow closing_line closing_count closing piece pieces first
 writes n room bytes text = equal (pieces n room first blank bytes) (ascii text)
 
 -- ---- document 01's

@@ -1,7 +1,6 @@
 -- The lines of the sheet as bytes: one space before each field, a line feed at the end. Assumes nothing.
 use Rattle.std.specs.Prelude.{ℕ, zero, suc, ◌+◌, ◌/◌, ◌%◌, cond, List, [], ◌∷◌, ◌++◌, ltb}
-use Rattle.voting.specs.declared.Choice.{Choice}
-use Rattle.voting.specs.declared.Choice.TheVariants.{Absent, Present}
+use Rattle.std.specs.Prelude.{Option, Some, None}
 use Rattle.words.specs.declared.Standing.{Standing}
 
 -- ---- numbers
@@ -37,9 +36,9 @@ unfoldable pub set_field : ℕ → List ℕ
 set_field s = space ∷ hex s
 
 -- a vote or a decision, and a dash where it is absent
-unfoldable pub choice_field : Choice → List ℕ
-choice_field Absent = space ∷ 45 ∷ []
-choice_field (Present x) = field x
+unfoldable pub choice_field : Option ℕ → List ℕ
+choice_field None = space ∷ 45 ∷ []
+choice_field (Some x) = field x
 
 -- ---- lines; each begins with its letter
 abbrev pub letter_h : ℕ

@@ -2,18 +2,19 @@
 #![tactic(auto)]
 
 use records::Place;
+use trace::Ending;
 
 // Where the writing of a sheet stands.
-#[derive(Clone, Copy)]
+#[derive(Clone, Copy, Debug, PartialEq, Eq)]
 pub enum Stand {
     // The trace is read, and has come to this place.
     Reads(Place),
-    // The trace has ended with this number, and so many of the lines that follow the `h` lines are written.
-    Closes(u32, u8),
+    // The trace has ended so, and so many of the lines that follow the `h` lines are written.
+    Closes(Ending, u8),
 }
 
 // What the next piece waits for.
-#[derive(Clone, Copy)]
+#[derive(Clone, Copy, Debug, PartialEq, Eq)]
 pub enum Wants {
     // More bytes of the trace: those at hand have no whole record left.
     Input,
@@ -24,7 +25,7 @@ pub enum Wants {
 }
 
 // What a piece has come to.
-#[derive(Clone, Copy)]
+#[derive(Clone, Copy, Debug, PartialEq, Eq)]
 pub struct Piece {
     // The bytes at hand that are used.
     pub used: usize,
