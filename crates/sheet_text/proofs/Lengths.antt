@@ -8,9 +8,9 @@ use mathlib.Core.Logic.{⊎_elim}
 use lib.ListN.{length, length-append}
 use mir.Val.{Val}
 use denote.Shadow.{shadow}
-use Rattle.voting.specs.declared.Choice.{Choice}
-use Rattle.voting.specs.declared.Choice.TheVariants.{Absent, Present}
-use Rattle.voting.specs.contracts.Choice.{the_field}
+use denote.Builtin.{u32}
+use Rattle.std.specs.contracts.option.Option.{the_field}
+use Rattle.std.specs.Prelude.{Option, Some, None}
 use Rattle.words.specs.declared.Standing.{Standing}
 use Rattle.words.specs.Spelled.{word_of}
 use Rattle.lines.specs.Pieces.{line_room}
@@ -43,15 +43,15 @@ unfolding set_field hex
 set_field_length s = refl
 
 -- a choice that the code holds is a word of 32 bits, if it is present
-pub choice_word : (v : Choice) (vs : List Val) → shadow (the_field.row.own_val (the_field.into v) vs) → word_of v < 2 ^ 32
+pub choice_word : (v : Option ℕ) (vs : List Val) → shadow ((the_field u32).row.own_val ((the_field u32).into v) vs) → word_of v < 2 ^ 32
 unfolding word_of
-choice_word Absent vs h = omega arith
-choice_word (Present x) vs h = omega arith
+choice_word None vs h = omega arith
+choice_word (Some x) vs h = omega arith
 
-choice_length : (v : Choice) → word_of v < 2 ^ 32 → length (choice_field v) ≤ 11
+choice_length : (v : Option ℕ) → word_of v < 2 ^ 32 → length (choice_field v) ≤ 11
 unfolding choice_field word_of
-choice_length Absent h = omega arith
-choice_length (Present x) h = field_length x h
+choice_length None h = omega arith
+choice_length (Some x) h = field_length x h
 
 -- ---- no line is longer than a `w` line may be
 pub h_length : (p r h : ℕ) → p < 256 → r < 2 ^ 32 → length (h_line p r h) ≤ line_room

@@ -14,7 +14,7 @@ use crate::text::Pen;
 use lines::{Piece, Stand, Wants};
 use machine::RUN;
 use records::Place;
-use trace::{Told, Turn};
+use trace::{Ending, Heard};
 
 // The room that is asked for before a line: that of the longest there can be.
 const LINE: usize = 66;
@@ -30,13 +30,12 @@ pub fn begin(run: &mut [u32; RUN]) -> Stand
 
 // What a record tells, as text.
 #[tactic(auto, using(crate::proofs::Lengths::h_length), unfolding(lines::specs::Pieces::told_text))]
-fn put_told(pen: &mut Pen, t: Told)
+fn put_told(pen: &mut Pen, told: Option<Heard>)
     requires { pen.old.at + line_room ≤ length pen.old.out.now }
-    ensures { Wrote pen.old pen.new (Pieces.told_text t) }
+    ensures { Wrote pen.old pen.new (Pieces.told_text told) }
 {
-    match t {
-        Told::Nothing => {}
-        Told::Heard(p, round, heard) => pen.h_line(p, round, heard),
+    if let Some(t) = told {
+        pen.h_line(t.process, t.round, t.heard);
     }
 }
 
@@ -53,23 +52,20 @@ fn follow(run: &mut [u32; RUN], place: Place, bytes: &[u8], last: bool, out: &mu
         if pen.room() < LINE {
             break (Stand::Reads(here), Wants::Room);
         }
-        used += trace::hasten(&mut *run, &bytes[used..], here);
-        match trace::one_record(&mut *run, &bytes[used..], here) {
-            Turn::More => {
+        used += trace::hasten(run, &bytes[used..], here);
+        match trace::one_record(run, &bytes[used..], here) {
+            Ok(Some(gone)) => {
+                put_told(&mut pen, gone.told);
+                used += gone.used;
+                here = gone.place;
+            }
+            Ok(None) => {
                 if last {
-                    break (
-                        Stand::Closes(trace::number(trace::at_end(here)), 0),
-                        Wants::Room,
-                    );
+                    break (Stand::Closes(trace::at_end(here), 0), Wants::Room);
                 }
                 break (Stand::Reads(here), Wants::Input);
             }
-            Turn::Goes(more, next, told) => {
-                put_told(&mut pen, told);
-                used += more;
-                here = next;
-            }
-            Turn::Ends(x) => break (Stand::Closes(trace::number(x), 0), Wants::Room),
+            Err(stop) => break (Stand::Closes(Err(stop), 0), Wants::Room),
         }
     };
     Piece {
@@ -80,11 +76,11 @@ fn follow(run: &mut [u32; RUN], place: Place, bytes: &[u8], last: bool, out: &mu
     }
 }
 
-// The line that follows k others when the trace has ended with a number: `w` lines, `v` lines, the `e` line.
+// The line that follows k others when the trace has ended: `w` lines, `v` lines, the `e` line.
 #[tactic(auto, using(crate::proofs::Lengths::closing_lengths, words::proofs::Reading::people_most), unfolding(lines::specs::Pieces::closing_line))]
-fn put_closing(pen: &mut Pen, run: &[u32; RUN], number: u32, k: u8)
+fn put_closing(pen: &mut Pen, run: &[u32; RUN], ending: Ending, k: u8)
     requires { pen.old.at + line_room ≤ length pen.old.out.now }
-    ensures { Wrote pen.old pen.new (Pieces.closing_line run.now number k) }
+    ensures { Wrote pen.old pen.new (Pieces.closing_line run.now ending k) }
 {
     let n = machine::size(run) as u8;
     if k < n {
@@ -92,14 +88,14 @@ fn put_closing(pen: &mut Pen, run: &[u32; RUN], number: u32, k: u8)
     } else if k < n + n {
         pen.v_line(k - n, machine::site(run, k - n));
     } else {
-        pen.e_line(machine::events(run), number);
+        pen.e_line(machine::events(run), trace::number(ending));
     }
 }
 
 // When the trace has ended: the lines that are left of those that follow the `h` lines.
 #[tactic(auto, using(words::proofs::Reading::people_most), unfolding(lines::specs::Pieces::closing_count))]
-fn close(run: &[u32; RUN], number: u32, from: u8, out: &mut [u8]) -> Piece
-    ensures { Came (Pieces.closing (length out.old) (Pieces.closing_count run.now - from) number from run.now)
+fn close(run: &[u32; RUN], ending: Ending, from: u8, out: &mut [u8]) -> Piece
+    ensures { Came (Pieces.closing (length out.old) (Pieces.closing_count run.now - from) ending from run.now)
         [] out.old result run.now out.new }
 {
     let n = machine::size(run) as u8;
@@ -110,16 +106,16 @@ fn close(run: &[u32; RUN], number: u32, from: u8, out: &mut [u8]) -> Piece
             return Piece {
                 used: 0,
                 written: pen.at,
-                stand: Stand::Closes(number, k),
+                stand: Stand::Closes(ending, k),
                 wants: Wants::Room,
             };
         }
-        put_closing(&mut pen, run, number, k);
+        put_closing(&mut pen, run, ending, k);
     }
     Piece {
         used: 0,
         written: pen.at,
-        stand: Stand::Closes(number, from.max(end)),
+        stand: Stand::Closes(ending, from.max(end)),
         wants: Wants::Nothing,
     }
 }
@@ -132,7 +128,7 @@ pub fn write(run: &mut [u32; RUN], stand: Stand, bytes: &[u8], last: bool, out: 
 {
     match stand {
         Stand::Reads(place) => follow(run, place, bytes, last, out),
-        Stand::Closes(number, k) => close(&*run, number, k, out),
+        Stand::Closes(ending, k) => close(run, ending, k, out),
     }
 }
 

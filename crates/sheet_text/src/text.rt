@@ -3,7 +3,6 @@ ghost use Rattle.std.specs.Prelude.{◌/◌, ◌%◌, ◌<◌, ◌≡◌, ◌≤
 ghost use Rattle.lines.specs.Text as Text;
 ghost use Rattle.sheet_text.specs.Written.{Wrote, Fits};
 
-use voting::Choice;
 use words::Standing;
 
 const SPACE: u8 = 0x20;
@@ -93,16 +92,16 @@ impl<'a> Pen<'a> {
 
     // A vote or a decision, and a dash where it is absent.
     #[tactic(auto, using(crate::proofs::Writing::writing), unfolding(lines::specs::Text::choice_field))]
-    fn choice(&mut self, c: Choice)
+    fn choice(&mut self, c: Option<u32>)
         requires { Fits self.old (Text.choice_field c) }
         ensures { Wrote self.old self.new (Text.choice_field c) }
     {
         match c {
-            Choice::Absent => {
+            Some(x) => self.field(x),
+            None => {
                 self.byte(SPACE);
                 self.byte(b'-');
             }
-            Choice::Present(x) => self.field(x),
         }
     }
 
