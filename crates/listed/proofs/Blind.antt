@@ -9,7 +9,7 @@ use lib.ListN.{length}
 use Rattle.rounds.specs.declared.Stage.TheVariants.{Sending, Collecting, Pending, Idle}
 use Rattle.rounds.specs.declared.Event as rounds
 use Rattle.rounds.specs.Config.{Control, Config}
-use Rattle.rounds.specs.Verdicts.{number_of}
+use Rattle.rounds.specs.Verdicts.{Verdict}
 use Rattle.rounds.specs.Runs.{value_at, night, night_reports}
 use Rattle.rounds.specs.Claims.{Agree}
 use Rattle.rounds.proofs.Demands.{nights_alike}
@@ -32,8 +32,8 @@ pub record SameWaits (a b : Standing) : Type 0 where
   pub idle : a.idle ≡ b.idle
 
 -- of two replays of a list, which give r and leave x from the values xs, and give s and leave y from the values ys
-pub record ListBlind (n : ℕ) (xs ys : List ℕ) (events : List listed.Event) (r s : ℕ) (x y : Mem) : Type 0 where
-  pub number : r ≡ s
+pub record ListBlind (n : ℕ) (xs ys : List ℕ) (events : List listed.Event) (r s : Verdict) (x y : Mem) : Type 0 where
+  pub answer : r ≡ s
   -- what `size`, `events` and `site` read of the two memories
   pub size : people x ≡ people y
   pub accepted : (control_of x).events ≡ (control_of y).events
@@ -85,14 +85,14 @@ unfolding events_of
 events_append [] b = refl
 events_append (e ∷ a) b = ap (λ (l : List rounds.Event). event_of e ∷ l) (events_append a b)
 
-pub list_blind : (n : ℕ) (xs ys : List ℕ) (events : List listed.Event) → length xs ≡ length ys → {r s : ℕ} {x y : Mem}
+pub list_blind : (n : ℕ) (xs ys : List ℕ) (events : List listed.Event) → length xs ≡ length ys → {r s : Verdict} {x y : Mem}
     → Passed n xs events r x → Passed n ys events s y → ListBlind n xs ys events r s x y
 list_blind n xs ys events same {r} {s} {x} {y} f g =
     let alike = nights_alike n xs ys (events_of events) same in
     let c = night n xs (events_of events) in
     let d = night n ys (events_of events) in
     record {
-      number = f.0 ∙ ap number_of alike.answer ∙ sym g.0;
+      answer = f.0 ∙ alike.answer ∙ sym g.0;
       size = size_means x c f.2 ∙ ap (λ (k : Control). k.size) alike.control ∙ sym (size_means y d g.2);
       accepted = events_means x c f.2 ∙ ap (λ (k : Control). k.events) alike.control ∙ sym (events_means y d g.2);
       waits = waits_shown c d f.2 g.2 alike.control;

@@ -3,7 +3,8 @@ use Prim.Native.Nat.{ℕ}
 use mathlib.Core.Path.{◌≡◌, sym, ap, ◌∙◌}
 use mathlib.Core.List.{List}
 use Rattle.sets.proofs.Determined.{determined}
-use Rattle.rounds.specs.Verdicts.{number_of}
+use Rattle.std.specs.Prelude.{Some, Ok}
+use Rattle.rounds.specs.Verdicts.{Verdict, number_of}
 use Rattle.rounds.specs.Runs.{night_verdict, night, night_reports}
 use Rattle.words.specs.Layout.{Mem}
 use Rattle.words.specs.Calls.{night_words}
@@ -19,7 +20,7 @@ use Rattle.listed.specs.Listed.{events_of, Passed}
 
 -- what a trace opens with and what happens in it, and a list with the same beside it
 pub record Lists (w : List ℕ) (n : ℕ) (values : List ℕ) (events : List listed.Event) : Type 0 where
-  pub opening : parse First w ≡ Opening n
+  pub opening : parse First w ≡ Ok (Some (Opening n))
   pub values_are : values ≡ values_of n w
   pub events_are : events_of events ≡ (script First w).events
 
@@ -44,7 +45,7 @@ same_run w n values events z l =
       heard_of = rw (l.values_are, l.events_are, ← size) k.reports;
     }
 
--- two results that the contract of `replay_list`, and of `replay_six`, allows are equal, the whole memory included
-pub replay_list_determined : (n : ℕ) (values : List ℕ) (events : List listed.Event) {r s : ℕ} {x y : Mem}
+-- two results that the contract of `replay_list` allows are equal, the whole memory included
+pub replay_list_determined : (n : ℕ) (values : List ℕ) (events : List listed.Event) {r s : Verdict} {x y : Mem}
     → Passed n values events r x → Passed n values events s y → (r ≡ s) × (x ≡ y)
 replay_list_determined n values events p q = (determined p.0 q.0, determined p.1 q.1)

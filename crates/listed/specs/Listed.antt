@@ -3,7 +3,7 @@
 use Rattle.std.specs.Prelude.{ℕ, ◌≡◌, List, [], ◌∷◌}
 use Rattle.rounds.specs.declared.Event.{Event}
 use Rattle.rounds.specs.declared.Event.TheVariants.{Send, Receive, Step, Broadcast}
-use Rattle.rounds.specs.Verdicts.{number_of}
+use Rattle.rounds.specs.Verdicts.{Verdict}
 use Rattle.rounds.specs.Runs.{night_verdict, night}
 use Rattle.words.specs.Layout.{Mem}
 use Rattle.words.specs.Calls.{night_words}
@@ -25,8 +25,8 @@ unfoldable pub events_of : List listed.Event → List Event
 events_of [] = []
 events_of (e ∷ es) = event_of e ∷ events_of es
 
--- ---- what the replay of a list es beside n and the values xs promises: its number, every word at exit, and what these show. A contract cites this name
+-- ---- what the replay of a list es beside n and the values xs promises: its verdict, every word at exit, and what these show. A contract cites this name
 -- and nothing else; that two results which it allows are equal is the lemma in proofs/SameRun
-abbrev pub Passed : ℕ → List ℕ → List listed.Event → ℕ → Mem → Type 0
+abbrev pub Passed : ℕ → List ℕ → List listed.Event → Verdict → Mem → Type 0
 Passed n xs es r m' =
-    (r ≡ number_of (night_verdict n xs (events_of es))) × (m' ≡ night_words n xs (events_of es)) × Shows m' (night n xs (events_of es))
+    (r ≡ night_verdict n xs (events_of es)) × (m' ≡ night_words n xs (events_of es)) × Shows m' (night n xs (events_of es))

@@ -1,11 +1,14 @@
 -- `replay_list` opens the run, and follows the list where that is accepted.
 -- Assumes nothing.
-use Rattle.std.proofs.Common.{arith}
 use Rattle.listed.proofs.Turning.{list_stops, list_goes_on}
 use Rattle.listed.proofs.replay_list.Goals as goal
 
-pub returns-then-number-ne0 : goal.returns-then-number-ne0
-returns-then-number-ne0 c = list_stops _ _ _ _ _ c.start-number.ensures c.if-number-ne0.true
+pub returns-in_err-begin : goal.returns-in_err-begin
+returns-in_err-begin c =
+    let did = rw c.clear.ensures.exact at c.in_err-begin.ensures.exact in
+    list_stops _ _ _ c.from_residual.ensures.1 did.0 did.1
 
 pub returns : goal.returns
-returns c = list_goes_on _ _ _ _ _ c.start-number.ensures (omega arith) _ _ c.follow.ensures
+returns c =
+    let did = rw c.clear.ensures.exact at c.in_ok-begin.ensures.exact in
+    list_goes_on _ _ _ did.0 did.1 c.follow.ensures
