@@ -4,7 +4,7 @@ use native.Mathlib.Decide.{le_ind}
 use native.Mathlib.Omega.{arith}
 use mathlib.Core.Path.{◌≡◌, refl, sym, ap, ◌∙◌}
 use mathlib.Core.List.{List, [], ◌∷◌, ◌++◌, append_assoc}
-use lib.ListN.{length-append}
+use lib.ListN.{length-append, length-set}
 use lib.Seq.{length-sets}
 use Rattle.lines.specs.Text.{glyph, digits, decimal}
 use Rattle.sheet_text.proofs.Writing.{sets_one}
@@ -59,4 +59,4 @@ decimal_hundreds n h =
     (append_assoc (decimal (n / 100)) (glyph (n % 100 / 10) ∷ []) (glyph (n % 100 % 10) ∷ []))
 
 -- ---- what the writer of a number goes by
-pub ruleset writing_digits = (length-append, length-sets, sets_one, decimal_one, decimal_two, decimal_hundreds)
+pub ruleset writing_digits = (length-append, length-set, length-sets, sets_one, decimal_one, decimal_two, decimal_hundreds)

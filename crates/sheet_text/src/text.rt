@@ -1,5 +1,6 @@
 // The lines of the sheet, written into a lent buffer. There must be room for what a pen writes.
-ghost use Rattle.std.specs.Prelude.{◌/◌, ◌%◌, ◌<◌, ◌≡◌, ◌≤◌, ◌-◌, [], ◌∷◌, length};
+ghost use Rattle.std.specs.Prelude.{◌/◌, ◌%◌, ◌<◌, ◌≡◌, ◌≤◌, ◌+◌, ◌-◌, [], ◌∷◌, length};
+ghost use Rattle.std.proofs.lemmas.List.Edits.{sets};
 ghost use Rattle.lines.specs.Text as Text;
 ghost use Rattle.sheet_text.specs.Written.{Wrote, Fits};
 
@@ -16,6 +17,37 @@ fn glyph(d: u32) -> u8
     ensures { result ≡ Text.glyph d }
 {
     if d < 10 { 48 + d as u8 } else { 87 + d as u8 }
+}
+
+// Two digits of a number below a hundred, the first a zero where it has only one. Answers the place behind them.
+#[tactic(auto, using(crate::proofs::Decimals::writing_digits))]
+fn put_two(out: &mut [u8], at: usize, n: u32) -> usize
+    requires { (n < 100) × (at + 2 ≤ length out.old) }
+    ensures place { result ≡ at + 2 }
+    ensures bytes { out.new ≡ sets out.old at (Text.glyph (n / 10) ∷ Text.glyph (n % 10) ∷ []) }
+{
+    out[at] = glyph(n / 10);
+    out[at + 1] = glyph(n % 10);
+    at + 2
+}
+
+// A number in decimal without leading zeros, two digits at a time, from a place on. Answers the place behind it.
+// It takes no pen: as it calls itself, a pen would lie in memory and no longer in registers, which costs instructions at each digit.
+#[tactic(auto, using(crate::proofs::Decimals::writing_digits))]
+fn put_decimal(out: &mut [u8], at: usize, n: u32) -> usize
+    requires { at + length (Text.decimal n) ≤ length out.old }
+    ensures place { result ≡ at + length (Text.decimal n) }
+    ensures bytes { out.new ≡ sets out.old at (Text.decimal n) }
+{
+    if n < 10 {
+        out[at] = glyph(n);
+        return at + 1;
+    }
+    if n < 100 {
+        return put_two(out, at, n);
+    }
+    let last = put_decimal(out, at, n / 100);
+    put_two(out, last, n % 100)
 }
 
 // Writes into a lent buffer, from the front on.
@@ -43,38 +75,13 @@ impl<'a> Pen<'a> {
         self.at += 1;
     }
 
-    // Two digits of a number below a hundred, the first a zero where it has only one.
-    fn two(&mut self, n: u32)
-        requires { (n < 100) × Fits self.old (Text.glyph (n / 10) ∷ Text.glyph (n % 10) ∷ []) }
-        ensures { Wrote self.old self.new (Text.glyph (n / 10) ∷ Text.glyph (n % 10) ∷ []) }
-    {
-        self.byte(glyph(n / 10));
-        self.byte(glyph(n % 10));
-    }
-
-    // A number in decimal without leading zeros, two digits at a time.
-    #[tactic(auto, using(crate::proofs::Decimals::writing_digits))]
-    fn decimal(&mut self, n: u32)
-        requires { Fits self.old (Text.decimal n) }
-        ensures { Wrote self.old self.new (Text.decimal n) }
-    {
-        if n < 10 {
-            return self.byte(glyph(n));
-        }
-        if n < 100 {
-            return self.two(n);
-        }
-        self.decimal(n / 100);
-        self.two(n % 100);
-    }
-
     #[tactic(auto, using(crate::proofs::Writing::writing), unfolding(lines::specs::Text::field))]
     fn field(&mut self, n: u32)
         requires { Fits self.old (Text.field n) }
         ensures { Wrote self.old self.new (Text.field n) }
     {
         self.byte(SPACE);
-        self.decimal(n);
+        self.at = put_decimal(&mut *self.out, self.at, n);
     }
 
     // A set of processes: four hex digits.
