@@ -39,9 +39,9 @@ pub no_room : (w report : List ℕ) → length report < room → Reported w repo
 unfolding number_given report_left
 no_room w report h = (rw (lt-ltb (length report) room h), rw (lt-ltb (length report) room h))
 
-pub room_enough : (w report : List ℕ) {m : Mem} {x : Ending} {r : ℕ} {rows : List ℕ} → room ≤ length report → Shows m (outcome w).config
-    → x ≡ (outcome w).ending → r ≡ ending_number x → rows ≡ over (rows_below (people m) (standing_of m)) (take room report)
-    → Reported w report r (rows ++ drop room report)
+pub room_enough : (w report : List ℕ) {m : Mem} {x : Ending} {r : ℕ} {written : List ℕ} → room ≤ length report → Shows m (outcome w).config
+    → x ≡ (outcome w).ending → r ≡ ending_number x → written ≡ over (rows_below (people m) (standing_of m)) (take room report)
+    → Reported w report r (written ++ drop room report)
 unfolding number_given report_left
 room_enough w report {m} h k ends number is = (
   rw (le-ltb (length report) room h, ← ends) number,
