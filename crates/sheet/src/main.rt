@@ -2,7 +2,7 @@
 // sheet_text gives it; here they are only fetched, from a buffer of the trace, and passed on.
 #![tactic(auto)]
 
-ghost use Rattle.std.specs.Prelude.{◌+◌, ◌≤◌, ◌<◌, ◌≡◌, length, drop, IfSome, OnSome};
+ghost use Rattle.std.specs.Prelude.{◌+◌, ◌≤◌, ◌<◌, ◌≡◌, length, drop, IfSome};
 ghost use Rattle.records.specs.Records.{longest};
 ghost use Rattle.lines.specs.declared.Wants.TheVariants as Wants;
 ghost use Rattle.lines.specs.Claims.{ahead};
