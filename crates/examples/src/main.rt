@@ -3,7 +3,7 @@
 #![tactic(auto)]
 
 ghost use Rattle.std.specs.Prelude.{ℕ, ◌≡◌, length};
-ghost use Rattle.rounds.specs.declared.Verdict.TheVariants.{Accepted};
+ghost use Rattle.rounds.specs.Verdicts.{Accepted};
 ghost use Rattle.rounds.specs.Config.{Config, opening};
 ghost use Rattle.rounds.specs.Verdicts.{number_of, open_verdict, number};
 ghost use Rattle.rounds.specs.Events.{apply};

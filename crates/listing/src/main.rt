@@ -8,7 +8,6 @@ ghost use Rattle.listing.specs.Expected as Expected;
 use listed::{Event, Kind};
 use machine::RUN;
 use std::{fmt, io};
-use voting::Choice;
 use words::Standing;
 
 // What the example finds: the number, the accepted events, and the two processes.
@@ -67,7 +66,7 @@ fn example_1(run: &mut [u32; RUN]) -> One
         receive(0, 1),
         step(0),
     ];
-    let number = listed::replay_six(run, 2, &[7, 4], events);
+    let number = rounds::number(listed::replay_list(run, 2, &[7, 4], &events));
     One {
         number,
         events: machine::events(run),
@@ -78,13 +77,13 @@ fn example_1(run: &mut [u32; RUN]) -> One
 
 // A vote or a decision, and a dash where there is none.
 #[derive(Clone, Copy)]
-struct Shown(Choice);
+struct Shown(Option<u32>);
 
 impl fmt::Display for Shown {
     fn fmt<W: fmt::Write>(&self, f: &mut fmt::Formatter<W>) -> fmt::Result {
         match self.0 {
-            Choice::Absent => f.write_str("-"),
-            Choice::Present(x) => write!(f, "{x}"),
+            Some(x) => write!(f, "{x}"),
+            None => f.write_str("-"),
         }
     }
 }

@@ -11,7 +11,7 @@ use Rattle.sets.specs.Sets.{empty, has, with, full}
 use Rattle.sets.proofs.Membership.{with_own, with_kept, with_other, without_other, has_empty}
 use Rattle.sets.proofs.Bounds.{with_below, full_only, empty_below}
 use Rattle.rounds.specs.declared.Event.TheVariants.{Send, Receive}
-use Rattle.rounds.specs.declared.Verdict.TheVariants.{Accepted}
+use Rattle.rounds.specs.Verdicts.{Accepted}
 use Rattle.rounds.specs.Limits.{most_processes, window, last_round, most_events}
 use Rattle.rounds.specs.Config.{Control, at₂, open_control, opening}
 use Rattle.rounds.specs.Stages.{tick}

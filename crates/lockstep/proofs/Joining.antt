@@ -6,7 +6,7 @@ use mathlib.Core.Path.{◌≡◌, refl, sym, subst}
 use mathlib.Core.List.{List, [], ◌∷◌, ◌++◌}
 use Rattle.rounds.specs.declared.Event.{Event}
 use Rattle.rounds.specs.declared.Event.TheVariants.{Send, Receive, Step}
-use Rattle.rounds.specs.declared.Verdict.TheVariants.{Accepted}
+use Rattle.rounds.specs.Verdicts.{Accepted}
 use Rattle.rounds.specs.Limits.{most_processes}
 use Rattle.rounds.specs.Config.{Config}
 use Rattle.rounds.specs.Verdicts.{refuse, open_verdict}

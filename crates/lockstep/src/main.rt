@@ -25,12 +25,14 @@ const EVERYONE: u32 = (1 << MOST_PROCESSES) - 1;
 
 // The loops of `sends`, `receives`, `all_send` and `all_turn` differ in their call; one over a closure needs a clause on each call's two memories, longer than a loop.
 
+// What a call answers is let go here: that none is refused is what `night` promises.
+
 // Process p sends to all.
 fn sends(run: &mut [u32; RUN], p: u8)
     ensures { (c : Config) → Shows run.old c → Shows run.new (after c (Runs.sends most_processes p)) }
 {
     for q in 0..ALL {
-        machine::send(run, p, q);
+        let _ = machine::send(run, p, q);
     }
 }
 
@@ -39,7 +41,7 @@ fn receives(run: &mut [u32; RUN], p: u8)
     ensures { (c : Config) → Shows run.old c → Shows run.new (after c (receives_below most_processes p)) }
 {
     for q in 0..ALL {
-        machine::receive(run, p, q);
+        let _ = machine::receive(run, p, q);
     }
 }
 
@@ -48,7 +50,7 @@ fn turn(run: &mut [u32; RUN], p: u8)
     ensures { (c : Config) → Shows run.old c → Shows run.new (after c (one_turn p)) }
 {
     receives(run, p);
-    machine::step(run, p);
+    let _ = machine::step(run, p);
 }
 
 fn all_send(run: &mut [u32; RUN])
@@ -80,7 +82,7 @@ fn night(run: &mut [u32; RUN], values: &[u32; VALUES])
         → Shows run.new (after (opening most_processes v) (many_rounds 1890))
         × ((control_of run.new).events ≡ round_events * 1890) }
 {
-    machine::begin(run, MOST_PROCESSES, values);
+    let _ = machine::begin(run, MOST_PROCESSES, values);
     for _ in 0..1890u32 {
         round(run);
     }

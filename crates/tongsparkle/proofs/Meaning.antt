@@ -13,7 +13,7 @@ use Rattle.words.specs.Calls.{standing_of}
 use Rattle.words.specs.Shows.{Shows, standing}
 use Rattle.words.proofs.Reading.{people_most, size_means, site_means}
 use Rattle.records.specs.Stored.{over}
-use Rattle.trace.specs.declared.Ending.{Ending}
+use Rattle.trace.specs.Outcome.{Ending}
 use Rattle.trace.specs.Outcome.{ending_number, outcome}
 use Rattle.trace.specs.Claims.{Revalued}
 use Rattle.trace.proofs.Values.{values_alone}
