@@ -5,6 +5,7 @@
 ghost use Rattle.std.specs.Prelude.{◌≡◌, eqb};
 ghost use Rattle.sets.specs.Sets as S;
 
+#[tactic(auto, unfolding(crate::specs::Sets::has))]
 pub fn has(set: u32, k: u32) -> bool
     ensures { result ≡ S.has set k }
 {
@@ -14,6 +15,7 @@ pub fn has(set: u32, k: u32) -> bool
     (set >> k) % 2 == 1
 }
 
+#[tactic(auto, using(std::proofs::lemmas::Bool::Decides::nat_tests, crate::proofs::Bounds::one_shifted), unfolding(crate::specs::Sets::with_room, crate::specs::Sets::with))]
 pub fn with(set: u32, k: u32) -> u32
     ensures { result ≡ S.with_room set k }
 {
@@ -23,6 +25,7 @@ pub fn with(set: u32, k: u32) -> u32
     set | (1 << k)
 }
 
+#[tactic(auto, using(crate::proofs::Bounds::one_shifted), unfolding(crate::specs::Sets::without))]
 pub fn without(set: u32, k: u32) -> u32
     ensures { result ≡ S.without set k }
 {
@@ -32,6 +35,7 @@ pub fn without(set: u32, k: u32) -> u32
     set ^ (set & (1 << k))
 }
 
+#[tactic(auto, unfolding(crate::specs::Sets::union))]
 pub fn union(a: u32, b: u32) -> u32
     ensures { result ≡ S.union a b }
 {
@@ -43,7 +47,7 @@ pub fn full(n: u32) -> u32
     ensures { result ≡ S.full_room n }
 {
     if 32 <= n {
-        return 4294967295;
+        return u32::MAX;
     }
     (1 << n) - 1
 }
@@ -55,12 +59,14 @@ pub fn is_empty(set: u32) -> bool
 }
 
 // The members of a set in ascending order are its lowest one and then those of the rest, until it is empty.
+#[tactic(auto, unfolding(crate::specs::Sets::lowest))]
 pub fn lowest(set: u32) -> u32
     ensures { result ≡ S.lowest set }
 {
-    u32::trailing_zeros(set)
+    set.trailing_zeros()
 }
 
+#[tactic(auto, unfolding(crate::specs::Sets::rest))]
 pub fn rest(set: u32) -> u32
     ensures { result ≡ S.rest set }
 {

@@ -7,14 +7,14 @@ ghost use Rattle.voting.specs.Voting as Rule;
 ghost use Rattle.voting.specs.Tally as Tallies;
 
 // What a message carries; the vote may be absent.
-#[derive(Clone, Copy)]
+#[derive(Clone, Copy, Debug, PartialEq, Eq)]
 pub struct Message {
     pub value: u32,
     pub vote: Option<u32>,
 }
 
 // What a process holds; vote and decision may be absent.
-#[derive(Clone, Copy)]
+#[derive(Clone, Copy, Debug, PartialEq, Eq)]
 pub struct Holding {
     pub value: u32,
     pub vote: Option<u32>,
@@ -22,14 +22,14 @@ pub struct Holding {
 }
 
 // Of some values, or of some votes, each of which may be absent: the least that is there, and whether all are there and the same.
-#[derive(Clone, Copy)]
+#[derive(Clone, Copy, Debug, PartialEq, Eq)]
 pub struct Poll {
     pub least: Option<u32>,
     pub same: bool,
 }
 
 // What a process has heard this round.
-#[derive(Clone, Copy)]
+#[derive(Clone, Copy, Debug, PartialEq, Eq)]
 pub struct Tally {
     pub values: Poll,
     pub votes: Poll,
