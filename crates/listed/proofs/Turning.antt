@@ -12,6 +12,7 @@ use Rattle.rounds.specs.declared.Event as rounds
 use Rattle.rounds.specs.declared.Refusal.{Refusal}
 use Rattle.rounds.specs.Verdicts.{Verdict, Accepted, accepted, open_verdict, verdict}
 use Rattle.rounds.specs.Runs.{night_verdict, night}
+use Rattle.rounds.proofs.Answers.{handed_on}
 use Rattle.words.specs.declared.Finished.{Finished}
 use Rattle.words.specs.Layout.{Mem}
 use Rattle.words.specs.Spelled.{control_of}
@@ -27,11 +28,6 @@ use Rattle.listed.specs.Listed.{event_of, events_of, Passed}
 abbrev pub Remains : Mem → List Event → ℕ → Mem → Type 0
 Remains m₀ es i m =
     (replayed_verdict m (events_of (drop i es)) ≡ replayed_verdict m₀ (events_of es)) × (replayed m (events_of (drop i es)) ≡ replayed m₀ (events_of es))
-
--- a refusal that `?` hands on is the refusal
-handed_on : {v : Verdict} {r : Refusal} → IsErrAnd v (λ e. e ≡ r) → v ≡ Err r
-handed_on {v = Ok u} h = absurd h
-handed_on {v = Err s} h = ap Err h
 
 -- ---- the events of the list
 module _ (m₀ : Mem) (es : List Event) (i : ℕ) (d : Event) (m : Mem) (left : Remains m₀ es i m) where

@@ -9,7 +9,7 @@ use lib.Dec.{eqb, ltb}
 use borrow.Author.Tests.{eqb-true, eqb-false, ltb-false, leb-false, not-false, le-ltb, lt-leb, eq-eqb, ne_eqb}
 use Rattle.rounds.specs.declared.Event.{Event}
 use Rattle.rounds.specs.declared.Event.TheVariants.{Send, Receive, Step, Broadcast}
-use Rattle.std.specs.Prelude.{Ok, Err}
+use Rattle.std.specs.Prelude.{Result, Ok, Err, IsErrAnd}
 use Rattle.rounds.specs.declared.Refusal.{Refusal}
 use Rattle.rounds.specs.Verdicts.{Verdict, Accepted}
 use Rattle.rounds.specs.declared.Refusal.TheVariants.{BadSize, NoProcess, AlreadySent, TooFarAhead, NothingInTransit, NotSentToAll, LastRound, TooManyEvents, WrongCount}
@@ -24,6 +24,11 @@ pub is_accepted : (v : Verdict) → accepted v ≡ true → v ≡ Accepted
 unfolding accepted
 is_accepted (Ok u) e = refl
 is_accepted (Err r) e = absurd (false≢true e)
+
+-- an error that `?` hands on is the error
+pub handed_on : {A E : Type 0} {v : Result A E} {r : E} → IsErrAnd v (λ e. e ≡ r) → v ≡ Err r
+handed_on {v = Ok u} h = absurd h
+handed_on {v = Err s} h = ap Err h
 
 -- no refusal has the number 0
 pub refusal_some : (r : Refusal) → refusal_number r ≡ 0 → ⊥

@@ -12,7 +12,7 @@ use Rattle.words.specs.Layout.{Mem}
 use Rattle.words.specs.Spelled.{control_of}
 use Rattle.records.specs.declared.Place.{Place}
 use Rattle.records.specs.Records.{longest}
-use Rattle.records.proofs.Rest.{rest}
+use Rattle.std.proofs.lemmas.List.{take_rest}
 use Rattle.records.proofs.Short.{cut_short}
 use Rattle.records.proofs.Stored.{sets_over}
 use Rattle.std.specs.Prelude.{Some, Ok, Err}
@@ -113,8 +113,8 @@ module _ {last : Bool} {x : Part} {w : List ℕ} {pl : Place} {m : Mem} {first p
       → Along last x w pl m' first pen (used + more)
   hastened wide e =
       let far = haste_within pl m (drop used w) in
-      let n = rw rest at e.0 in
-      let q = rw rest at e.1 in
+      let n = rw take_rest at e.0 in
+      let q = rw take_rest at e.1 in
       record {
         within = omega (arith, h.within, far, n, length-drop used w);
         text = h.text;
@@ -128,7 +128,7 @@ module _ {last : Bool} {x : Part} {w : List ℕ} {pl : Place} {m : Mem} {first p
       → (t ≡ turn pl (control_of m') (take (length w - (used + more)) (drop (used + more) w)))
       × (m'' ≡ turned pl m' (take (length w - (used + more)) (drop (used + more) w)))
       → Turned last x w pl m'' first pen (used + more) t
-  took l e g = record { before = _; so = hastened l e; wide = l; answer = rw rest at g.0; words = rw rest at g.1 }
+  took l e g = record { before = _; so = hastened l e; wide = l; answer = rw take_rest at g.0; words = rw take_rest at g.1 }
 
 -- ---- what comes of the turn
 module _ {last : Bool} {x : Part} {w : List ℕ} {pl : Place} {m : Mem} {first pen : Pen} {used : ℕ} {t : Turn}

@@ -2,7 +2,7 @@
 -- trace leaves ahead. Assumes nothing.
 use Prim.Native.Nat.{ℕ, ◌-◌, ◌≤◌, ◌<◌}
 use native.Mathlib.Omega.{arith}
-use mathlib.Core.Path.{◌≡◌, sym, ap, ◌∙◌, subst}
+use mathlib.Core.Path.{◌≡◌, sym, ◌∙◌, subst}
 use mathlib.Core.List.{List}
 use lib.ListN.{length, take, drop}
 use Rattle.rounds.specs.Verdicts.{Verdict}
@@ -15,8 +15,6 @@ use Rattle.records.specs.declared.Place.TheVariants.{First}
 use Rattle.records.specs.declared.Record.TheVariants.{Opening, Happens, End}
 use Rattle.records.specs.Records.{Reading, extent_of, parse, extent}
 use Rattle.std.proofs.lemmas.List.{take_rest}
-use Rattle.std.specs.Prelude.{IsErrAnd}
-use Rattle.trace.specs.Outcome.{Ending}
 use Rattle.records.proofs.Whole.{extent_within, event_some}
 use Rattle.std.specs.Prelude.{Option, Some, None, Ok, Err}
 use Rattle.trace.specs.declared.Stop.{Stop}
@@ -84,8 +82,3 @@ module _ (v : List ℕ) (k : ℕ) {w : List ℕ} {pl : Place} {m m' : Mem} {x : 
 
   pub ends_last : {y : Stop} → x ≡ Ends y → (Err y ≡ (outcome w).ending) × (m' ≡ trace_words w)
   ends_last q = ahead_ends w (rw leaves (sym h.ahead_of ∙ ends_ahead pl m (drop k v) (sym answers ∙ q)))
-
--- ---- a stop that `?` hands on is the stop
-pub handed_on : {v : Ending} {y : Stop} → IsErrAnd v (λ e. e ≡ y) → v ≡ Err y
-handed_on {v = Ok u} h = absurd h
-handed_on {v = Err z} h = ap Err h

@@ -2,7 +2,7 @@
 -- Assumes nothing.
 use native.Mathlib.Omega.{arith}
 use lib.ListN.{length-drop}
-use Rattle.records.proofs.Rest.{rest}
+use Rattle.std.proofs.lemmas.List.{take_rest}
 use Rattle.trace.proofs.Hastening.{hastens_far, hastens_on, hastens_no_more}
 use Rattle.trace.proofs.hasten_all.Goals as goal
 
@@ -15,10 +15,10 @@ slice_bounds-rest-start c = hastens_far c.loop-rest.invariant c.hasten_one.ensur
 pub loop-rest-smaller : goal.loop-rest-smaller
 loop-rest-smaller c =
     let far = hastens_far c.loop-rest.invariant c.hasten_one.ensures c.loop-rest-test.true in
-    rw rest (omega (arith, length-drop 5 c.loop-rest.rest.now))
+    rw take_rest (omega (arith, length-drop 5 c.loop-rest.rest.now))
 
 pub loop-rest-preserved : goal.loop-rest-preserved
-loop-rest-preserved c = rw rest (hastens_on c.loop-rest.invariant c.hasten_one.ensures c.loop-rest-test.true)
+loop-rest-preserved c = rw take_rest (hastens_on c.loop-rest.invariant c.hasten_one.ensures c.loop-rest-test.true)
 
 pub returns : goal.returns
 returns c = hastens_no_more c.loop-rest.invariant c.hasten_one.ensures c.loop-rest-test.false

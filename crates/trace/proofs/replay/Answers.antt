@@ -2,7 +2,8 @@
 -- Assumes nothing.
 use Rattle.std.proofs.Common.{arith, length-drop, ◌∙◌, ap, Ok, drop}
 use Rattle.std.proofs.lemmas.List.{take_rest}
-use Rattle.trace.proofs.Looping.{hastened, hastened_within, goes_far, goes_on, more_last, ends_last, handed_on}
+use Rattle.rounds.proofs.Answers.{handed_on}
+use Rattle.trace.proofs.Looping.{hastened, hastened_within, goes_far, goes_on, more_last, ends_last}
 use Rattle.trace.proofs.Meaning.{replay_meant}
 use Rattle.trace.proofs.replay.Goals as goal
 
