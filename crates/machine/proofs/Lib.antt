@@ -2,3 +2,4 @@
 pub mod Rooms
 pub mod Told
 pub mod Heard
+pub mod Numbers

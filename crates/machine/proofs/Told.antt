@@ -3,7 +3,7 @@
 use Rattle.std.proofs.Common.{◌≡◌, ℕ, zero, suc, ◌<◌, ◌≤◌, cond, Result, Ok, Err, is_ok, IsErrAnd, sym, ap, ◌∙◌, arith}
 use native.Mathlib.Decide.{ℕ_discrete}
 use Rattle.rounds.specs.Limits.{most_processes}
-use Rattle.rounds.specs.declared.Event.TheVariants.{Send, Receive, Broadcast}
+use Rattle.rounds.specs.declared.Event.TheVariants.{Send, Receive, Step, Broadcast}
 use Rattle.rounds.specs.declared.Refusal.{Refusal}
 use Rattle.rounds.specs.Verdicts.{Verdict, Accepted, accepted, open_verdict, first_refusal, verdict}
 use Rattle.rounds.specs.Config.{Config}
@@ -27,18 +27,27 @@ send_told m p q e =
     let to : q < people m = a.to in
     (omega arith, omega arith)
 
-pub receive_told : (m : Mem) (p q : ℕ) → Accepted ≡ verdict (control_of m) (Receive p q) → q < most_processes
+pub receive_told : (m : Mem) (p q : ℕ) → Accepted ≡ verdict (control_of m) (Receive p q) → (p < most_processes) × (q < most_processes)
 unfolding control_of
 receive_told m p q e =
     let a = allowed (control_of m) (Receive p q) (accepted_is _ (sym e)) in
     let most = people_most m in
+    let to : p < people m = a.to in
     let from : q < people m = a.from in
-    omega arith
+    (omega arith, omega arith)
 
 pub broadcast_told : (m : Mem) (p : ℕ) → Accepted ≡ verdict (control_of m) (Broadcast p) → p < most_processes
 unfolding control_of
 broadcast_told m p e =
     let a = allowed (control_of m) (Broadcast p) (accepted_is _ (sym e)) in
+    let most = people_most m in
+    let who : p < people m = a.who in
+    omega arith
+
+pub step_told : (m : Mem) (p : ℕ) → Accepted ≡ verdict (control_of m) (Step p) → p < most_processes
+unfolding control_of
+step_told m p e =
+    let a = allowed (control_of m) (Step p) (accepted_is _ (sym e)) in
     let most = people_most m in
     let who : p < people m = a.who in
     omega arith

@@ -1,28 +1,28 @@
 // A broadcast: its verdict, and its sends one after the other.
-ghost use Rattle.std.specs.Prelude.{◌≡◌, ◌<◌, ◌≤◌};
+ghost use Rattle.std.specs.Prelude.{◌≡◌};
 ghost use Rattle.rounds.specs.declared.Event.TheVariants.{Broadcast};
-ghost use Rattle.rounds.specs.Limits.{most_processes};
 ghost use Rattle.rounds.specs.Config.{Config};
 ghost use Rattle.rounds.specs.Verdicts.{verdict, send_verdict, first_refusal};
 ghost use Rattle.words.specs.Calls.{judged};
-ghost use Rattle.words.specs.Spelled.{control_of};
+ghost use Rattle.words.specs.Spelled.{people, control_of};
 ghost use Rattle.words.specs.Calls as Calls;
 ghost use Rattle.words.specs.Exact.{Tried};
 ghost use Rattle.words.specs.Shows.{Shows, Meant};
 
 use crate::cells::*;
 use crate::limits::*;
+use crate::process::Process;
 use crate::sending::{carry_send, judge_target};
 use crate::spelled::*;
 use rounds::{Refusal, Verdict};
 
-// The first refusal among the targets below n.
+// The first refusal among the targets.
 #[tactic(auto, unfolding(rounds::specs::Verdicts::first_refusal))]
-fn judge_targets(run: &[u32; RUN], p: u32, n: u32) -> Verdict
-    ensures { result ≡ first_refusal n (send_verdict (control_of run.now) p) }
+fn judge_targets(run: &[u32; RUN], p: Process) -> Verdict
+    ensures { result ≡ first_refusal (people run.now) (send_verdict (control_of run.now) p) }
 {
-    for q in 0..n {
-        judge_target(run, p, q)?;
+    for q in 0..people(run) {
+        judge_target(run, p, Process::new(q))?;
     }
     Ok(())
 }
@@ -39,17 +39,16 @@ fn judge_broadcast(run: &[u32; RUN], p: u32) -> Verdict
     if MOST_EVENTS - n < head(run, EVENTS) {
         return Err(Refusal::TooManyEvents);
     }
-    judge_targets(run, p, n)
+    judge_targets(run, Process::new(p))
 }
 
-// An accepted broadcast to the processes below n.
+// An accepted broadcast.
 #[tactic(auto, unfolding(words::specs::Calls::sent_below))]
-fn carry_sends(run: &mut [u32; RUN], p: u32, n: u32)
-    requires { (p < most_processes) × (n ≤ most_processes) }
-    ensures { run.new ≡ Calls.sent_below n run.old p }
+fn carry_sends(run: &mut [u32; RUN], p: Process)
+    ensures { run.new ≡ Calls.sent_below (people run.old) run.old p }
 {
-    for q in 0..n {
-        carry_send(run, p, q);
+    for q in 0..people(run) {
+        carry_send(run, p, Process::new(q));
     }
 }
 
@@ -58,9 +57,8 @@ pub fn broadcast(run: &mut [u32; RUN], p: u8) -> Verdict
     ensures exact { Tried run.old (Broadcast p) result run.new }
     ensures meaning { (c : Config) → Shows run.old c → Meant (judged result) run.new c (Broadcast p) }
 {
-    let i = p as u32;
+    let i = u32::from(p);
     judge_broadcast(run, i)?;
-    let n = people(run);
-    carry_sends(run, i, n);
+    carry_sends(run, Process::new(i));
     Ok(())
 }

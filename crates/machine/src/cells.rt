@@ -6,6 +6,7 @@ ghost use Rattle.words.specs.Layout as Layout;
 ghost use Rattle.words.specs.Layout.{get, put, Head, Line, Transit, Mail};
 
 use crate::limits::*;
+use crate::process::Process;
 
 // How long the parts are, and where they begin.
 const HEADS: usize = 16;
@@ -75,46 +76,46 @@ pub(crate) fn set_head(run: &mut [u32; RUN], k: usize, x: u32)
 }
 
 // A word of the line of process p.
-pub(crate) fn line(run: &[u32; RUN], p: u32, k: usize) -> u32
+pub(crate) fn line(run: &[u32; RUN], p: Process, k: usize) -> u32
     requires { k < Layout.line }
     ensures { result ≡ get run.now (Line p k) }
 {
-    run[HEADS + p as usize % LINES * LINE + k]
+    run[HEADS + p.index() * LINE + k]
 }
 
-pub(crate) fn set_line(run: &mut [u32; RUN], p: u32, k: usize, x: u32)
+pub(crate) fn set_line(run: &mut [u32; RUN], p: Process, k: usize, x: u32)
     requires { k < Layout.line }
     ensures { run.new ≡ put run.old (Line p k) x }
 {
-    run[HEADS + p as usize % LINES * LINE + k] = x;
+    run[HEADS + p.index() * LINE + k] = x;
 }
 
 // The senders whose message to p for round r is in transit.
-pub(crate) fn transit(run: &[u32; RUN], p: u32, r: u32) -> u32
+pub(crate) fn transit(run: &[u32; RUN], p: Process, r: u32) -> u32
     ensures { result ≡ get run.now (Transit p r) }
 {
-    run[TRANSIT + (p as usize % LINES * SLOTS + r as usize % SLOTS)]
+    run[TRANSIT + (p.index() * SLOTS + r as usize % SLOTS)]
 }
 
-pub(crate) fn set_transit(run: &mut [u32; RUN], p: u32, r: u32, x: u32)
+pub(crate) fn set_transit(run: &mut [u32; RUN], p: Process, r: u32, x: u32)
     ensures { run.new ≡ put run.old (Transit p r) x }
 {
-    run[TRANSIT + (p as usize % LINES * SLOTS + r as usize % SLOTS)] = x;
+    run[TRANSIT + (p.index() * SLOTS + r as usize % SLOTS)] = x;
 }
 
 // A word of the message from q to p for round r.
-pub(crate) fn letter(run: &[u32; RUN], p: u32, r: u32, q: u32, k: usize) -> u32
+pub(crate) fn letter(run: &[u32; RUN], p: Process, r: u32, q: Process, k: usize) -> u32
     requires { k < Layout.letter }
     ensures { result ≡ get run.now (Mail p r q k) }
 {
-    let slot = p as usize % LINES * SLOTS + r as usize % SLOTS;
-    run[MAIL + (slot * LINES + q as usize % LINES) * LETTER + k]
+    let slot = p.index() * SLOTS + r as usize % SLOTS;
+    run[MAIL + (slot * LINES + q.index()) * LETTER + k]
 }
 
-pub(crate) fn set_letter(run: &mut [u32; RUN], p: u32, r: u32, q: u32, k: usize, x: u32)
+pub(crate) fn set_letter(run: &mut [u32; RUN], p: Process, r: u32, q: Process, k: usize, x: u32)
     requires { k < Layout.letter }
     ensures { run.new ≡ put run.old (Mail p r q k) x }
 {
-    let slot = p as usize % LINES * SLOTS + r as usize % SLOTS;
-    run[MAIL + (slot * LINES + q as usize % LINES) * LETTER + k] = x;
+    let slot = p.index() * SLOTS + r as usize % SLOTS;
+    run[MAIL + (slot * LINES + q.index()) * LETTER + k] = x;
 }

@@ -6,6 +6,7 @@ mod broadcasting;
 mod cells;
 mod limits;
 mod opening;
+mod process;
 mod reading;
 mod receiving;
 mod sending;
@@ -13,7 +14,6 @@ mod settling;
 mod spelled;
 mod stepping;
 
-ghost use Rattle.std.specs.Prelude.{◌≡◌};
 ghost use Rattle.rounds.specs.Config.{Config};
 ghost use Rattle.words.specs.Exact.{Answered};
 ghost use Rattle.words.specs.Shows.{Shows, Meant};

@@ -1,7 +1,5 @@
 // The limits of document 01, as the code knows them: each stands here once.
 
-// That a process number is below it is asked where a set gets the number as a member, and in the calls that lead there. It is no type: the words are
-// read by any number, as `step` does before its tests.
 pub const MOST_PROCESSES: u32 = 16;
 
 pub(crate) const WINDOW: u32 = 8;

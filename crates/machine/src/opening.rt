@@ -1,5 +1,5 @@
 // The opening of a run: its verdict, and what an accepted one makes of the memory, whatever it held.
-ghost use Rattle.std.specs.Prelude.{◌≡◌, ℕ, ◌<◌, ◌≤◌, length};
+ghost use Rattle.std.specs.Prelude.{◌≡◌, ℕ, ◌≤◌, length};
 ghost use Rattle.rounds.specs.Limits.{most_processes};
 ghost use Rattle.rounds.specs.Config.{opening, no_run};
 ghost use Rattle.rounds.specs.Verdicts.{Accepted, open_verdict};
@@ -9,6 +9,7 @@ ghost use Rattle.words.specs.Shows.{Shows, Given};
 
 use crate::cells::*;
 use crate::limits::*;
+use crate::process::Process;
 use rounds::{Refusal, Verdict};
 
 // The tests of an opening, in document 01's order.
@@ -35,11 +36,10 @@ pub fn clear(run: &mut [u32; RUN])
 
 // Process p is there, with its value.
 #[tactic(auto, using(crate::proofs::Rooms::with_room_lem), unfolding(words::specs::Calls::placed))]
-fn place(run: &mut [u32; RUN], p: u32, value: u32)
-    requires { p < most_processes }
+fn place(run: &mut [u32; RUN], p: Process, value: u32)
     ensures { run.new ≡ Calls.placed run.old p value }
 {
-    let own = sets::with(0, p);
+    let own = sets::with(0, p.number());
     set_line(run, p, VALUE, value);
     set_line(run, p, ROUND, 1);
     set_line(run, p, REACH, own);
@@ -52,7 +52,7 @@ fn place_all(run: &mut [u32; RUN], values: &[u32])
     ensures { run.new ≡ Calls.placed_below (length values.now) values.now run.old }
 {
     for (p, &value) in values.iter().enumerate() {
-        place(run, p as u32, value);
+        place(run, Process::new(p as u32), value);
     }
 }
 

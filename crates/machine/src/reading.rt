@@ -6,6 +6,7 @@ ghost use Rattle.words.specs.Exact.{SizeRead, EventsRead, SiteRead};
 ghost use Rattle.words.specs.Shows.{Shows, standing};
 
 use crate::cells::*;
+use crate::process::Process;
 use crate::spelled::*;
 use rounds::Stage;
 use words::Standing;
@@ -28,25 +29,26 @@ pub fn events(run: &[u32; RUN]) -> u32
 }
 
 // A count of p, with the events since it was last settled.
-#[tactic(auto, using(std::proofs::lemmas::Bool::Decides::nat_tests), unfolding(words::specs::Spelled::count_of, words::specs::Spelled::word, rounds::specs::Stages::one))]
-fn count(run: &[u32; RUN], p: u32, s: Stage) -> u32
+#[tactic(auto, using(crate::proofs::Numbers::apart), unfolding(words::specs::Spelled::count_of, words::specs::Spelled::word, rounds::specs::Stages::one))]
+fn count(run: &[u32; RUN], p: Process, s: Stage) -> u32
     ensures { result ≡ word (count_of run.now p s) }
 {
-    let k = index(s);
-    let settled = line(run, p, COUNTS + k);
-    if index(stage(run, p)) == k {
+    let settled = line(run, p, COUNTS + index(s));
+    if stage(run, p) == s {
         let waited = head(run, EVENTS).saturating_sub(line(run, p, SINCE));
-        return settled.wrapping_add(waited);
+        settled.wrapping_add(waited)
+    } else {
+        settled
     }
-    settled
 }
 
 // What is shown of process p; of one that is not there, nothing.
+#[tactic(auto, using(std::proofs::lemmas::Bool::Decides::nat_tests, words::proofs::Meaning::site_meant), unfolding(words::specs::Calls::standing_of, words::specs::Calls::nobody))]
 pub fn site(run: &[u32; RUN], p: u8) -> Standing
     ensures exact { SiteRead run.now p result }
     ensures meaning { (c : Config) → Shows run.now c → p < c.control.size → result ≡ standing c p }
 {
-    let i = p as u32;
+    let i = u32::from(p);
     if people(run) <= i {
         return Standing {
             round: 0,
@@ -60,16 +62,17 @@ pub fn site(run: &[u32; RUN], p: u8) -> Standing
             idle: 0,
         };
     }
-    let h = holding(run, i);
+    let p = Process::new(i);
+    let h = holding(run, p);
     Standing {
-        round: line(run, i, ROUND),
+        round: line(run, p, ROUND),
         value: h.value,
         vote: h.vote,
         decision: h.decision,
-        reach: line(run, i, REACH),
-        sending: count(run, i, Stage::Sending),
-        collecting: count(run, i, Stage::Collecting),
-        pending: count(run, i, Stage::Pending),
-        idle: count(run, i, Stage::Idle),
+        reach: line(run, p, REACH),
+        sending: count(run, p, Stage::Sending),
+        collecting: count(run, p, Stage::Collecting),
+        pending: count(run, p, Stage::Pending),
+        idle: count(run, p, Stage::Idle),
     }
 }

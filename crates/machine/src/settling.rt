@@ -3,6 +3,7 @@ ghost use Rattle.std.specs.Prelude.{◌≡◌};
 ghost use Rattle.words.specs.Calls as Calls;
 
 use crate::cells::*;
+use crate::process::Process;
 use crate::spelled::*;
 
 // One more event is accepted.
@@ -16,7 +17,7 @@ fn count_event(run: &mut [u32; RUN])
 
 // The events since p was last settled are counted at the stage that it is at.
 #[tactic(auto, unfolding(words::specs::Calls::settled, words::specs::Spelled::word))]
-pub(crate) fn settle(run: &mut [u32; RUN], p: u32)
+pub(crate) fn settle(run: &mut [u32; RUN], p: Process)
     ensures { run.new ≡ Calls.settled run.old p }
 {
     let k = COUNTS + index(stage(run, p));
@@ -29,7 +30,7 @@ pub(crate) fn settle(run: &mut [u32; RUN], p: u32)
 
 // An event of p is accepted: before anything else of p changes it is counted, at the stage that p is at until now.
 #[tactic(auto, unfolding(words::specs::Calls::begun))]
-pub(crate) fn begin_event(run: &mut [u32; RUN], p: u32)
+pub(crate) fn begin_event(run: &mut [u32; RUN], p: Process)
     ensures { run.new ≡ Calls.begun run.old p }
 {
     count_event(run);

@@ -7,6 +7,7 @@ ghost use Rattle.words.specs.Spelled.{flag_of, word_of, holding_of, message_of, 
 
 use crate::cells::*;
 use crate::limits::*;
+use crate::process::Process;
 use rounds::Stage;
 use voting::{Holding, Message};
 
@@ -16,10 +17,7 @@ pub(crate) fn people(run: &[u32; RUN]) -> u32
     ensures { (result ≡ Spelled.people run.now) × (result ≤ most_processes) }
 {
     let n = head(run, SIZE);
-    if n <= MOST_PROCESSES {
-        return n;
-    }
-    0
+    if n <= MOST_PROCESSES { n } else { 0 }
 }
 
 // A choice stands in two words: whether it is present, and what it is.
@@ -46,7 +44,7 @@ pub(crate) fn word_of(c: Option<u32>) -> u32
 
 // What process p holds.
 #[tactic(auto, unfolding(words::specs::Spelled::holding_of))]
-pub(crate) fn holding(run: &[u32; RUN], p: u32) -> Holding
+pub(crate) fn holding(run: &[u32; RUN], p: Process) -> Holding
     ensures { result ≡ holding_of run.now p }
 {
     let value = line(run, p, VALUE);
@@ -61,7 +59,7 @@ pub(crate) fn holding(run: &[u32; RUN], p: u32) -> Holding
 
 // What the message from q to p for round r says.
 #[tactic(auto, unfolding(words::specs::Spelled::message_of))]
-pub(crate) fn message(run: &[u32; RUN], p: u32, r: u32, q: u32) -> Message
+pub(crate) fn message(run: &[u32; RUN], p: Process, r: u32, q: Process) -> Message
     ensures { result ≡ message_of run.now p r q }
 {
     let value = letter(run, p, r, q, VALUE);
@@ -70,6 +68,7 @@ pub(crate) fn message(run: &[u32; RUN], p: u32, r: u32, q: u32) -> Message
 }
 
 // The place of a stage among the counts, in the order S, C, P, I.
+#[tactic(auto, using(crate::proofs::Numbers::numbered))]
 pub(crate) fn index(s: Stage) -> usize
     ensures { (result ≡ Stages.index s) × (result < 4) }
 {
@@ -78,18 +77,17 @@ pub(crate) fn index(s: Stage) -> usize
 
 // The stage that p is at.
 #[tactic(auto, using(std::proofs::lemmas::Bool::Decides::nat_tests, crate::proofs::Rooms::full_room_lem), unfolding(words::specs::Spelled::control_of, words::specs::Spelled::site_of, rounds::specs::Stages::stage, rounds::specs::Stages::sent_to_all, rounds::specs::Stages::waited, rounds::specs::Stages::heard_from_all))]
-pub(crate) fn stage(run: &[u32; RUN], p: u32) -> Stage
+pub(crate) fn stage(run: &[u32; RUN], p: Process) -> Stage
     ensures { result ≡ Stages.stage (control_of run.now) p }
 {
     let all = sets::full(people(run));
     if line(run, p, SENT) != all {
-        return Stage::Sending;
+        Stage::Sending
+    } else if transit(run, p, line(run, p, ROUND)) != 0 {
+        Stage::Collecting
+    } else if line(run, p, HEARD) != all {
+        Stage::Pending
+    } else {
+        Stage::Idle
     }
-    if transit(run, p, line(run, p, ROUND)) != 0 {
-        return Stage::Collecting;
-    }
-    if line(run, p, HEARD) != all {
-        return Stage::Pending;
-    }
-    Stage::Idle
 }

@@ -4,7 +4,7 @@ ghost use Rattle.voting.specs.Tally as Tallies;
 ghost use Rattle.rounds.specs.declared.Event.TheVariants.{Step};
 ghost use Rattle.rounds.specs.Config.{Config};
 ghost use Rattle.rounds.specs.Verdicts.{verdict};
-ghost use Rattle.words.specs.Spelled.{control_of};
+ghost use Rattle.words.specs.Spelled.{people, control_of};
 ghost use Rattle.words.specs.Calls as Calls;
 ghost use Rattle.words.specs.Calls.{messages_below, reach_below, stepping};
 ghost use Rattle.words.specs.Exact.{Stepped};
@@ -12,6 +12,7 @@ ghost use Rattle.words.specs.Shows.{Shows, Meant};
 
 use crate::cells::*;
 use crate::limits::*;
+use crate::process::Process;
 use crate::settling::*;
 use crate::spelled::*;
 use rounds::{Refusal, Verdict};
@@ -25,18 +26,19 @@ struct Gathered {
     reach: u32,
 }
 
-// What p has heard from the processes below n: every place is tested.
+// What p has heard: every process is asked after.
 #[tactic(auto, using(crate::proofs::Heard::tally_none, crate::proofs::Heard::reach_none))]
-fn listen(run: &[u32; RUN], p: u32, n: u32) -> Gathered
-    ensures { (result.tally ≡ Tallies.tally (messages_below n run.now p)) × (result.reach ≡ reach_below n run.now p) }
+fn listen(run: &[u32; RUN], p: Process) -> Gathered
+    ensures { (result.tally ≡ Tallies.tally (messages_below (people run.now) run.now p)) × (result.reach ≡ reach_below (people run.now) run.now p) }
 {
     let r = line(run, p, ROUND);
     let mut g = Gathered {
         tally: voting::silence(),
         reach: line(run, p, REACH),
     };
-    for q in 0..n {
+    for q in 0..people(run) {
         if sets::has(line(run, p, HEARD), q) {
+            let q = Process::new(q);
             g.tally = voting::hear(g.tally, message(run, p, r, q));
             g.reach = sets::union(g.reach, letter(run, p, r, q, CARRIED));
         }
@@ -46,7 +48,7 @@ fn listen(run: &[u32; RUN], p: u32, n: u32) -> Gathered
 
 // p holds this from now on.
 #[tactic(auto, unfolding(words::specs::Calls::held))]
-fn hold(run: &mut [u32; RUN], p: u32, h: Holding)
+fn hold(run: &mut [u32; RUN], p: Process, h: Holding)
     ensures { run.new ≡ Calls.held run.old p h }
 {
     set_line(run, p, VALUE, h.value);
@@ -58,7 +60,7 @@ fn hold(run: &mut [u32; RUN], p: u32, h: Holding)
 
 // p goes on from round r to the next.
 #[tactic(auto, unfolding(words::specs::Calls::advanced, words::specs::Spelled::word))]
-fn advance(run: &mut [u32; RUN], p: u32, r: u32, reach: u32)
+fn advance(run: &mut [u32; RUN], p: Process, r: u32, reach: u32)
     ensures { run.new ≡ Calls.advanced run.old p r reach }
 {
     set_transit(run, p, r, 0);
@@ -80,6 +82,7 @@ fn judge_step(run: &[u32; RUN], p: u32) -> Verdict
     if MOST_EVENTS <= head(run, EVENTS) {
         return Err(Refusal::TooManyEvents);
     }
+    let p = Process::new(p);
     if line(run, p, SENT) != sets::full(n) {
         return Err(Refusal::NotSentToAll);
     }
@@ -91,11 +94,11 @@ fn judge_step(run: &[u32; RUN], p: u32) -> Verdict
 
 // An accepted step.
 #[tactic(auto, unfolding(words::specs::Calls::stepped))]
-fn carry_step(run: &mut [u32; RUN], p: u32)
+fn carry_step(run: &mut [u32; RUN], p: Process)
     ensures { run.new ≡ Calls.stepped run.old p }
 {
     let r = line(run, p, ROUND);
-    let g = listen(run, p, people(run));
+    let g = listen(run, p);
     let next = voting::rule(r, holding(run, p), g.tally);
     begin_event(run, p);
     hold(run, p, next);
@@ -107,12 +110,13 @@ pub fn step(run: &mut [u32; RUN], p: u8) -> Result<Finished, Refusal>
     ensures exact { Stepped run.old p result run.new }
     ensures meaning { (c : Config) → Shows run.old c → Meant (stepping result) run.new c (Step p) }
 {
-    let i = p as u32;
+    let i = u32::from(p);
     judge_step(run, i)?;
+    let p = Process::new(i);
     let finished = Finished {
-        round: line(run, i, ROUND),
-        heard: line(run, i, HEARD),
+        round: line(run, p, ROUND),
+        heard: line(run, p, HEARD),
     };
-    carry_step(run, i);
+    carry_step(run, p);
     Ok(finished)
 }

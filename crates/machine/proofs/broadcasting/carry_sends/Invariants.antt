@@ -1,4 +1,4 @@
--- `carry_sends` goes over the processes below n; at each the memory so far is its definition's.
+-- `carry_sends` goes over the processes; at each the memory so far is its definition's.
 -- Assumes nothing.
 use Rattle.std.proofs.Common.{◌≡◌}
 use Rattle.words.specs.Calls.{sent_below}

@@ -1,4 +1,4 @@
--- `judge_targets` goes over the targets below n; none of those before is refused.
+-- `judge_targets` goes over the targets; none of those before is refused.
 -- Assumes nothing.
 use Rattle.std.proofs.Common.{◌≡◌}
 use Rattle.rounds.specs.Verdicts.{Accepted, send_verdict, first_refusal}

@@ -6,17 +6,20 @@ use Rattle.words.specs.Calls.{done, answer}
 use Rattle.machine.proofs.Told.{send_told, accepted_call, refused_call}
 use Rattle.machine.proofs.sending.send.Goals as goal
 
-pub carry_send-requires : goal.carry_send-requires
-carry_send-requires c = send_told _ _ _ c.in_ok-judge_send.ensures
+pub new-requires : goal.new-requires
+new-requires c = (send_told _ _ _ c.in_ok-judge_send.ensures).0
+
+pub new-requires-2 : goal.new-requires-2
+new-requires-2 c = (send_told _ _ _ c.in_ok-judge_send.ensures).1
 
 pub returns-in_err-judge_send : goal.returns-in_err-judge_send
 unfolding answer
 returns-in_err-judge_send c =
-    let t = refused_call c.args.run.now (Send c.args.p c.args.q) refl c.from_residual.ensures.1 c.in_err-judge_send.ensures in
+    let t = refused_call c.args.run.now (Send c.args.p c.args.q) refl c.from_residual.ensures.1 (rw (c.from-i.ensures, c.from-j.ensures) at c.in_err-judge_send.ensures) in
     record { exact = t.0; meaning = t.1 }
 
 pub returns : goal.returns
 unfolding answer done
 returns c =
-    let t = accepted_call c.args.run.now (Send c.args.p c.args.q) refl c.in_ok-judge_send.ensures (c.carry_send.ensures) in
+    let t = accepted_call c.args.run.now (Send c.args.p c.args.q) refl (rw (c.from-i.ensures, c.from-j.ensures) at c.in_ok-judge_send.ensures) (rw (c.new.ensures, c.new-2.ensures, c.from-i.ensures, c.from-j.ensures) at c.carry_send.ensures) in
     record { exact = t.0; meaning = t.1 }

@@ -20,8 +20,8 @@ loop-q-preserved c =
       | then-has w ↦
           let heard = told q c.line-in-loop-q.ensures c.has.ensures w.if-has.true in
           rw (w.g-is, add-one q) (
-            rw (tally_heard _ _ _ heard, ← before.0, w.hear-g.ensures.exact, w.message.ensures, c.line-r.ensures),
-            rw (reach_heard _ _ _ heard, ← before.1, w.union.ensures, w.letter.ensures, c.line-r.ensures),
+            rw (tally_heard _ _ _ heard, ← before.0, w.hear-g.ensures.exact, w.message.ensures, c.line-r.ensures, w.new-q.ensures),
+            rw (reach_heard _ _ _ heard, ← before.1, w.union.ensures, w.letter.ensures, c.line-r.ensures, w.new-q.ensures),
           )
       | else-has w ↦
           let unheard = told q c.line-in-loop-q.ensures c.has.ensures w.if-has.false in

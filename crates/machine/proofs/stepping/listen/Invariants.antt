@@ -1,4 +1,4 @@
--- `listen` goes over the processes below n; at each the tally and the reach so far are those of what was heard.
+-- `listen` goes over the processes; at each the tally and the reach so far are those of what was heard.
 -- Assumes nothing.
 use Rattle.std.proofs.Common.{◌≡◌}
 use Rattle.voting.specs.Tally.{tally}
