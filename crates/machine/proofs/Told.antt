@@ -1,6 +1,6 @@
 -- What an accepted event or opening tells of its numbers, whatever the memory holds.
 -- Assumes nothing.
-use Rattle.std.proofs.Common.{◌≡◌, ℕ, zero, suc, ◌<◌, ◌≤◌, cond, Result, Ok, Err, is_ok, IsErrAnd, sym, ap, ◌∙◌, arith}
+use Rattle.std.proofs.Common.{◌≡◌, ℕ, zero, suc, ◌<◌, ◌≤◌, cond, Err, is_ok, IsErrAnd, sym, ◌∙◌, arith}
 use native.Mathlib.Decide.{ℕ_discrete}
 use Rattle.rounds.specs.Limits.{most_processes}
 use Rattle.rounds.specs.declared.Event.TheVariants.{Send, Receive, Step, Broadcast}
@@ -9,7 +9,7 @@ use Rattle.rounds.specs.Verdicts.{Verdict, Accepted, accepted, open_verdict, fir
 use Rattle.rounds.specs.Config.{Config}
 use Rattle.rounds.specs.Events.{if_accepted}
 use Rattle.rounds.specs.declared.Event.{Event}
-use Rattle.rounds.proofs.Answers.{accepted_is, opens_right, allowed}
+use Rattle.rounds.proofs.Answers.{handed_on, accepted_is, opens_right, allowed}
 use Rattle.words.specs.Layout.{Mem}
 use Rattle.words.specs.Spelled.{people, control_of}
 use Rattle.words.specs.Calls.{judged, done, applied, answer}
@@ -60,11 +60,6 @@ opening_told n given e =
     omega arith
 
 -- ---- a judge's answer and what a call makes of it
--- a refusal that `?` hands on is the refusal
-pub handed_on : {E : Type 0} {v w : Result E Refusal} {r : Refusal} → IsErrAnd v (λ e. e ≡ r) → Err r ≡ w → v ≡ w
-handed_on {v = Ok u} h e = absurd h
-handed_on {v = Err s} h e = ap Err h ∙ e
-
 -- a test of each in turn: the first refusal is that of all
 pub first_is : (n q : ℕ) (f : ℕ → Verdict) (r : Refusal) → q < n → first_refusal q f ≡ Accepted → Err r ≡ f q → Err r ≡ first_refusal n f
 unfolding first_refusal accepted
@@ -91,4 +86,4 @@ module _ (m : Mem) (e : Event) where
 
     pub refused_call : {v : Verdict} {r : Refusal} → IsErrAnd v (λ e. e ≡ r) → Err r ≡ verdict (control_of m) e
         → Tried m e v m × ((c : Config) → Shows m c → Meant (judged v) m c e)
-    refused_call h a = judged_meant m e plain (handed_on h a, applied_refused a)
+    refused_call h a = judged_meant m e plain (handed_on h ∙ a, applied_refused a)

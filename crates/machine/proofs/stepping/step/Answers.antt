@@ -6,7 +6,8 @@ use Rattle.rounds.specs.Events.{if_accepted}
 use Rattle.words.specs.Spelled.{site_of, control_of}
 use Rattle.words.specs.Calls.{done, applied, finishing, step_answer}
 use Rattle.words.proofs.Meaning.{stepped_meant}
-use Rattle.machine.proofs.Told.{step_told, handed_on}
+use Rattle.rounds.proofs.Answers.{handed_on}
+use Rattle.machine.proofs.Told.{step_told}
 use Rattle.machine.proofs.stepping.step.Goals as goal
 
 pub new-p-requires : goal.new-p-requires
@@ -16,7 +17,7 @@ pub returns-in_err-judge_step : goal.returns-in_err-judge_step
 unfolding applied if_accepted accepted step_answer finishing
 returns-in_err-judge_step c =
     let judged = rw c.from-i.ensures at c.in_err-judge_step.ensures in
-    let t = stepped_meant c.args.run.now c.args.p (rw (← judged) (handed_on c.from_residual.ensures.1 refl, refl)) in
+    let t = stepped_meant c.args.run.now c.args.p (rw (← judged) (handed_on c.from_residual.ensures.1, refl)) in
     record { exact = t.0; meaning = t.1 }
 
 pub returns : goal.returns
