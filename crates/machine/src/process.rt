@@ -4,19 +4,20 @@ ghost use Rattle.rounds.specs.Limits.{most_processes};
 
 use std::marker::Model;
 
+// The number stands as the index that each word's place is reckoned from.
 #[derive(Clone, Copy)]
 pub(crate) struct Process {
-    number: u32,
+    index: usize,
 }
 
 impl Model for Process {
     ghost Value = { ℕ };
 
-    ghost view = { λ p. p.number };
+    ghost view = { λ p. p.index };
 
-    ghost invariant = { λ p. p.number < most_processes };
+    ghost invariant = { λ p. p.index < most_processes };
 
-    ghost inverse = { λ n. record { number = n } };
+    ghost inverse = { λ n. record { index = n } };
 }
 
 impl Process {
@@ -25,20 +26,22 @@ impl Process {
         requires { number < most_processes }
         ensures { result ≡ number }
     {
-        Process { number }
+        Process {
+            index: number as usize,
+        }
     }
 
     // Its place among the processes.
     pub(crate) fn index(self) -> usize
         ensures { (result ≡ self) × (result < most_processes) }
     {
-        self.number as usize
+        self.index
     }
 
     // Its number, as sets have it for a member.
     pub(crate) fn number(self) -> u32
         ensures { (result ≡ self) × (result < most_processes) }
     {
-        self.number
+        self.index as u32
     }
 }
