@@ -10,7 +10,7 @@ use machine::RUN;
 use std::{fmt, io};
 use words::Standing;
 
-// What the example finds: the number, the accepted events, and the two processes.
+// What the example finds: the number, as the `e` line has it, the accepted events, and the two processes.
 #[derive(Clone, Copy)]
 struct One {
     number: u32,

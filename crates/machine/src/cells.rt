@@ -23,7 +23,7 @@ const TRANSIT: usize = HEADS + LINES * LINE;
 
 const MAIL: usize = TRANSIT + LINES * SLOTS;
 
-// The words of a run.
+// The words of a run: an array and no struct, since each may be anything and a caller lends it, so that a type would have no fact to keep.
 pub const RUN: usize = MAIL + LINES * SLOTS * LINES * LETTER;
 
 // The words of the head.

@@ -56,7 +56,7 @@ fn place_all(run: &mut [u32; RUN], values: &[u32])
     }
 }
 
-// A run of n processes begins, with their values.
+// A run of n processes begins, with their values. N stands beside the values, since document 01 refuses an opening whose values are not N in number.
 pub fn begin(run: &mut [u32; RUN], n: u32, values: &[u32]) -> Verdict
     ensures exact { Begun run.old n values.now result run.new }
     ensures meaning { result ≡ Accepted → (v : ℕ → ℕ) → Given n values.now v → Shows run.new (opening n v) }

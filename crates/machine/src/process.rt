@@ -4,20 +4,19 @@ ghost use Rattle.rounds.specs.Limits.{most_processes};
 
 use std::marker::Model;
 
-// The number stands as the index that each word's place is reckoned from.
 #[derive(Clone, Copy)]
 pub(crate) struct Process {
-    index: usize,
+    number: u32,
 }
 
 impl Model for Process {
     ghost Value = { ℕ };
 
-    ghost view = { λ p. p.index };
+    ghost view = { λ p. p.number };
 
-    ghost invariant = { λ p. p.index < most_processes };
+    ghost invariant = { λ p. p.number < most_processes };
 
-    ghost inverse = { λ n. record { index = n } };
+    ghost inverse = { λ n. record { number = n } };
 }
 
 impl Process {
@@ -26,22 +25,20 @@ impl Process {
         requires { number < most_processes }
         ensures { result ≡ number }
     {
-        Process {
-            index: number as usize,
-        }
+        Process { number }
     }
 
     // Its place among the processes.
     pub(crate) fn index(self) -> usize
         ensures { (result ≡ self) × (result < most_processes) }
     {
-        self.index
+        self.number as usize
     }
 
     // Its number, as sets have it for a member.
     pub(crate) fn number(self) -> u32
         ensures { (result ≡ self) × (result < most_processes) }
     {
-        self.index as u32
+        self.number
     }
 }

@@ -20,7 +20,7 @@ pub(crate) fn people(run: &[u32; RUN]) -> u32
     if n <= MOST_PROCESSES { n } else { 0 }
 }
 
-// A choice stands in two words: whether it is present, and what it is.
+// A choice stands in two words of the lent memory: whether it is present, and what it is.
 #[tactic(auto, using(std::proofs::lemmas::Bool::Decides::nat_tests), unfolding(words::specs::Spelled::choice))]
 fn choice(flag: u32, x: u32) -> Option<u32>
     ensures { result ≡ Spelled.choice flag x }

@@ -52,7 +52,7 @@ enum Tag {
     End,
 }
 
-// The number that document 01 gives a fault.
+// The number that document 01 gives a fault: a function, as that of a verdict.
 #[tactic(auto, unfolding(crate::specs::Records::fault_number))]
 pub fn number(f: Fault) -> u32
     ensures { result ≡ Records.fault_number f }

@@ -52,7 +52,7 @@ pub enum Refusal {
 // What an opening or an event is answered with.
 pub type Verdict = Result<(), Refusal>;
 
-// The number that document 01 gives a verdict.
+// The number that document 01 gives a verdict. A function and no `From`: a verdict is a `Result`, and of that no crate but std says what it becomes.
 #[tactic(auto, unfolding(crate::specs::Verdicts::number_of, crate::specs::Verdicts::refusal_number))]
 pub fn number(v: Verdict) -> u32
     ensures { result ≡ number_of v }

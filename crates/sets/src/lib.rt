@@ -58,7 +58,8 @@ pub fn is_empty(set: u32) -> bool
     set == 0
 }
 
-// The members of a set in ascending order are its lowest one and then those of the rest, until it is empty.
+// The members of a set in ascending order are its lowest one and then those of the rest, until it is empty. The lowest of the empty set is the bits of a
+// word, and no Option: its definition says a number of every set.
 #[tactic(auto, unfolding(crate::specs::Sets::lowest))]
 pub fn lowest(set: u32) -> u32
     ensures { result ≡ S.lowest set }

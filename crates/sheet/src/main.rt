@@ -50,6 +50,7 @@ impl Writing {
         ensures short { IfSome result (λ used. length bytes.now < used + longest) }
     {
         let mut used: usize = 0;
+        // It ends by what a piece wants: there is nothing to go over in a `for`.
         loop {
             let p = self.print(rt, &bytes[used..], last)?;
             used += p.used;
@@ -61,6 +62,8 @@ impl Writing {
         }
     }
 }
+
+// The buffer of the trace and how much of it is held stay two: `keep` of sheet_text moves the bytes of a lent slice and answers how many are left.
 
 // Reads once, behind the bytes that are held, and answers how many are held then. Where that fails the trace ends there.
 fn read_more(rt: &impl Eprint, trace: &mut impl Read, input: &mut [u8; INPUT], held: usize) -> usize

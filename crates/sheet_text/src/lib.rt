@@ -48,6 +48,7 @@ fn follow(run: &mut [u32; RUN], place: Place, bytes: &[u8], last: bool, out: &mu
     let mut pen = Pen { out, at: 0 };
     let mut used: usize = 0;
     let mut here = place;
+    // It ends by what a record is, or by the room: there is nothing to go over in a `for`.
     let (stand, wants) = loop {
         if pen.room() < LINE {
             break (Stand::Reads(here), Wants::Room);

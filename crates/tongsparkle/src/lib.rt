@@ -18,7 +18,7 @@ const ROW: usize = 24;
 // The room that a report needs, whatever the trace: that of as many processes as there can be.
 const ROOM: usize = machine::MOST_PROCESSES as usize * ROW;
 
-// The number for a report with less room.
+// The number for a report with less room: the C service gets numbers.
 const NO_ROOM: u32 = 14;
 
 // What the report shows of a process: six numbers, each big-endian.

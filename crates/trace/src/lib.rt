@@ -69,10 +69,14 @@ pub type Turn = Result<Option<Gone>, Stop>;
 // The values of an opening record, at most: its N is one byte.
 const MOST_VALUES: usize = 255;
 
-// The bytes of a send and of a receive.
+// Tag and length of a send and of a receive, as one number, and the bytes of either.
+const SEND: u32 = 0x100002;
+
+const RECEIVE: u32 = 0x110002;
+
 const HASTY: usize = 5;
 
-// The number that document 01 gives an ending.
+// The number that document 01 gives an ending: a function, as that of a verdict.
 #[tactic(auto, unfolding(crate::specs::Outcome::ending_number, rounds::specs::Verdicts::number_of))]
 pub fn number(e: Ending) -> u32
     ensures { result ≡ Outcome.ending_number e }
@@ -204,12 +208,12 @@ fn hasten_one(run: &mut [u32; RUN], bytes: &[u8]) -> bool
     ensures { (result ≡ Haste.goes (control_of run.old) (Haste.hasty bytes.now))
         × (run.new ≡ Haste.left run.old (Haste.hasty bytes.now)) }
 {
-    let [tag, 0, 2, p, q, ..] = *bytes else {
+    let [tag, high, low, p, q, ..] = *bytes else {
         return false;
     };
-    match tag {
-        0x10 => machine::send(run, p, q).is_ok(),
-        0x11 => machine::receive(run, p, q).is_ok(),
+    match u32::from_be_bytes([0, tag, high, low]) {
+        SEND => machine::send(run, p, q).is_ok(),
+        RECEIVE => machine::receive(run, p, q).is_ok(),
         _ => false,
     }
 }
@@ -219,6 +223,7 @@ fn hasten_all(run: &mut [u32; RUN], bytes: &[u8]) -> usize
     ensures { (result ≡ (Haste.haste_behind 0 run.old bytes.now).used)
         × (run.new ≡ (Haste.haste_behind 0 run.old bytes.now).words) }
 {
+    // No index is counted: the loop goes on as long as the record at the head of what is left is accepted.
     let mut rest = bytes;
     while hasten_one(run, rest) {
         rest = &rest[HASTY..];
@@ -244,6 +249,7 @@ pub fn replay(run: &mut [u32; RUN], trace: &[u8]) -> Ending
     ensures meaning { Shows.Shows run.new (Outcome.outcome trace.now).config }
 {
     machine::clear(run);
+    // No index is counted: what a record uses is known only when it is read.
     let mut rest = trace;
     let mut place = Place::First;
     loop {

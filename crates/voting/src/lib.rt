@@ -41,14 +41,15 @@ impl Poll {
     fn with(self, choice: Option<u32>) -> Poll
         ensures { result ≡ Tallies.with self choice }
     {
-        match choice {
-            None => Poll {
-                least: self.least,
-                same: false,
+        match (choice, self.least) {
+            (None, least) => Poll { least, same: false },
+            (Some(x), None) => Poll {
+                least: Some(x),
+                same: self.same,
             },
-            Some(x) => Poll {
-                least: Some(self.least.map_or(x, |a| a.min(x))),
-                same: self.same && self.least.is_none_or(|a| a == x),
+            (Some(x), Some(a)) => Poll {
+                least: Some(a.min(x)),
+                same: self.same && a == x,
             },
         }
     }
