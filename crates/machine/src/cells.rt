@@ -3,7 +3,7 @@
 
 ghost use Rattle.std.specs.Prelude.{◌≡◌, ◌<◌};
 ghost use Rattle.words.specs.Layout as Layout;
-ghost use Rattle.words.specs.Layout.{get, put, Head, Line, Transit, Mail};
+ghost use Rattle.words.specs.Layout.{at, get, put, Head, Line, Transit, Mail};
 
 use crate::limits::*;
 use crate::process::Process;
@@ -57,8 +57,9 @@ pub(crate) const COUNTS: usize = 10;
 // The words of a letter: VALUE, VOTED and VOTE as in a line, and the reach that it carries.
 pub(crate) const CARRIED: usize = 3;
 
-// Four functions read a word and four write one: each takes other numbers, and none differs from another in a type, a size or a constant.
-// A word's number within its part is one of the constants above, or a count's, wherever it is given, so that the check finds what is asked of it.
+// Where a word stands is said once for each kind of place; a word is read and written by a function of its own for each, so that a caller names a place by
+// what it takes. A word's number within its part is one of the constants above, or a count's, wherever it is given, so that the check finds what is asked
+// of it. They are numbers and no enum: the words of a letter are the first of a line's, and a stage is counted on from COUNTS.
 
 // A word of the head.
 pub(crate) fn head(run: &[u32; RUN], k: usize) -> u32
@@ -76,46 +77,65 @@ pub(crate) fn set_head(run: &mut [u32; RUN], k: usize, x: u32)
 }
 
 // A word of the line of process p.
+fn line_at(p: Process, k: usize) -> usize
+    requires { k < Layout.line }
+    ensures { (result ≡ at (Line p k)) × (result < Layout.RUN) }
+{
+    HEADS + p.number() as usize * LINE + k
+}
+
 pub(crate) fn line(run: &[u32; RUN], p: Process, k: usize) -> u32
     requires { k < Layout.line }
     ensures { result ≡ get run.now (Line p k) }
 {
-    run[HEADS + p.index() * LINE + k]
+    run[line_at(p, k)]
 }
 
 pub(crate) fn set_line(run: &mut [u32; RUN], p: Process, k: usize, x: u32)
     requires { k < Layout.line }
     ensures { run.new ≡ put run.old (Line p k) x }
 {
-    run[HEADS + p.index() * LINE + k] = x;
+    run[line_at(p, k)] = x;
 }
 
 // The senders whose message to p for round r is in transit.
+fn transit_at(p: Process, r: u32) -> usize
+    ensures { (result ≡ at (Transit p r)) × (result < Layout.RUN) }
+{
+    TRANSIT + (p.number() as usize * SLOTS + r as usize % SLOTS)
+}
+
 pub(crate) fn transit(run: &[u32; RUN], p: Process, r: u32) -> u32
     ensures { result ≡ get run.now (Transit p r) }
 {
-    run[TRANSIT + (p.index() * SLOTS + r as usize % SLOTS)]
+    run[transit_at(p, r)]
 }
 
 pub(crate) fn set_transit(run: &mut [u32; RUN], p: Process, r: u32, x: u32)
     ensures { run.new ≡ put run.old (Transit p r) x }
 {
-    run[TRANSIT + (p.index() * SLOTS + r as usize % SLOTS)] = x;
+    run[transit_at(p, r)] = x;
 }
 
 // A word of the message from q to p for round r.
+fn letter_at(p: Process, r: u32, q: Process, k: usize) -> usize
+    requires { k < Layout.letter }
+    ensures { (result ≡ at (Mail p r q k)) × (result < Layout.RUN) }
+{
+    let slot = p.number() as usize * SLOTS + r as usize % SLOTS;
+    MAIL + (slot * LINES + q.number() as usize) * LETTER + k
+}
+
 pub(crate) fn letter(run: &[u32; RUN], p: Process, r: u32, q: Process, k: usize) -> u32
     requires { k < Layout.letter }
     ensures { result ≡ get run.now (Mail p r q k) }
 {
-    let slot = p.index() * SLOTS + r as usize % SLOTS;
-    run[MAIL + (slot * LINES + q.index()) * LETTER + k]
+    run[letter_at(p, r, q, k)]
 }
 
 pub(crate) fn set_letter(run: &mut [u32; RUN], p: Process, r: u32, q: Process, k: usize, x: u32)
     requires { k < Layout.letter }
     ensures { run.new ≡ put run.old (Mail p r q k) x }
 {
-    let slot = p.index() * SLOTS + r as usize % SLOTS;
-    run[MAIL + (slot * LINES + q.index()) * LETTER + k] = x;
+    run[letter_at(p, r, q, k)] = x;
 }

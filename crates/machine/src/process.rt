@@ -28,14 +28,7 @@ impl Process {
         Process { number }
     }
 
-    // Its place among the processes.
-    pub(crate) fn index(self) -> usize
-        ensures { (result ≡ self) × (result < most_processes) }
-    {
-        self.number as usize
-    }
-
-    // Its number, as sets have it for a member.
+    // Its number, which is its place among the processes, and what sets have for a member.
     pub(crate) fn number(self) -> u32
         ensures { (result ≡ self) × (result < most_processes) }
     {

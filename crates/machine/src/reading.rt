@@ -42,7 +42,7 @@ fn count(run: &[u32; RUN], p: Process, s: Stage) -> u32
     }
 }
 
-// What is shown of process p; of one that is not there, nothing: zeros and no Option, since a caller need not ask first whether it is there.
+// What is shown of process p; of one that is not there, nothing: zeros and no Option, as the definition (`standing_of`) says of every number.
 #[tactic(auto, using(std::proofs::lemmas::Bool::Decides::nat_tests, words::proofs::Meaning::site_meant), unfolding(words::specs::Calls::standing_of, words::specs::Calls::nobody))]
 pub fn site(run: &[u32; RUN], p: u8) -> Standing
     ensures exact { SiteRead run.now p result }

@@ -46,7 +46,7 @@ pub(crate) fn judge_target(run: &[u32; RUN], p: Process, q: Process) -> Verdict
     }
 }
 
-// The tests of a send, in document 01's order.
+// The tests of a send, in document 01's order. The first two stand in each judge, so that it reads as the definition (`verdict`) does.
 #[tactic(auto, using(std::proofs::lemmas::Bool::Decides::nat_tests), unfolding(rounds::specs::Verdicts::verdict, rounds::specs::Verdicts::outside, rounds::specs::Verdicts::crowded, rounds::specs::Verdicts::refuse, words::specs::Spelled::control_of))]
 fn judge_send(run: &[u32; RUN], p: u32, q: u32) -> Verdict
     ensures { result ≡ verdict (control_of run.now) (Send p q) }

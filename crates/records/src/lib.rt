@@ -52,7 +52,7 @@ enum Tag {
     End,
 }
 
-// The number that document 01 gives a fault: a function, as that of a verdict.
+// The number that document 01 gives a fault: a call that the documents name, as that of a verdict, and so no `From`.
 #[tactic(auto, unfolding(crate::specs::Records::fault_number))]
 pub fn number(f: Fault) -> u32
     ensures { result ≡ Records.fault_number f }

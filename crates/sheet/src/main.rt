@@ -2,7 +2,7 @@
 // sheet_text gives it; here they are only fetched, from a buffer of the trace, and passed on.
 #![tactic(auto)]
 
-ghost use Rattle.std.specs.Prelude.{◌+◌, ◌≤◌, ◌<◌, ◌≡◌, length, drop, IfSome};
+ghost use Rattle.std.specs.Prelude.{◌+◌, ◌≤◌, ◌<◌, ◌≡◌, length, drop, IfSome, OnSome};
 ghost use Rattle.records.specs.Records.{longest};
 ghost use Rattle.lines.specs.declared.Wants.TheVariants as Wants;
 ghost use Rattle.lines.specs.Claims.{ahead};
@@ -63,39 +63,48 @@ impl Writing {
     }
 }
 
-// The buffer of the trace and how much of it is held stay two: `keep` of sheet_text moves the bytes of a lent slice and answers how many are left.
+// The bytes of the trace that are held: those that are read, and not used yet.
+#[derive(Drop)]
+struct Held {
+    bytes: [u8; INPUT],
+    len: usize,
+}
 
-// Reads once, behind the bytes that are held, and answers how many are held then. Where that fails the trace ends there.
-fn read_more(rt: &impl Eprint, trace: &mut impl Read, input: &mut [u8; INPUT], held: usize) -> usize
-    requires { held < length input.old }
-    ensures { result ≤ length input.new }
-{
-    match trace.read(&mut input[held..]) {
-        Ok(n) => held + n,
-        Err(_) => {
-            let _ = eprintln!(rt;
-                "sheet: the trace cannot be read further, and is taken to end there"
-            );
-            held
+impl Held {
+    // Reads once, behind what is held: whether anything came. Where that fails the trace ends there.
+    fn read_more(&mut self, rt: &impl Eprint, trace: &mut impl Read) -> bool
+        requires { self.old.len < INPUT }
+        ensures { self.new.len ≤ INPUT }
+    {
+        match trace.read(&mut self.bytes[self.len..]) {
+            Ok(n) => {
+                self.len += n;
+                n != 0
+            }
+            Err(_) => {
+                let _ = eprintln!(rt;
+                    "sheet: the trace cannot be read further, and is taken to end there"
+                );
+                false
+            }
         }
     }
 }
 
-// Reads once, writes all pieces, and keeps the bytes that are not used: how many these are, or none where the sheet is over. Where nothing comes, the trace
-// has ended.
+// Reads once, writes all pieces, and keeps the bytes that are not used; none where the sheet is over. Where nothing comes, the trace has ended.
 fn feed(
     rt: &(impl Print + Eprint),
     trace: &mut impl Read,
     sheet: &mut Writing,
-    input: &mut [u8; INPUT],
-    held: usize,
-) -> Option<usize>
-    requires { held < longest }
-    ensures { IfSome result (λ kept. kept < longest) }
+    held: &mut Held,
+) -> Option<()>
+    requires { held.old.len < longest }
+    ensures { OnSome result (held.new.len < longest) }
 {
-    let filled = read_more(rt, trace, input, held);
-    let used = sheet.print_all(rt, &input[..filled], filled == held)?;
-    Some(sheet_text::keep(input, used, filled))
+    let more = held.read_more(rt, trace);
+    let used = sheet.print_all(rt, &held.bytes[..held.len], !more)?;
+    held.len = sheet_text::keep(&mut held.bytes, used, held.len);
+    Some(())
 }
 
 // A proved loop has to end, and nothing says that the input does. So the loop counts its turns, up to a number that no run comes to.
@@ -107,13 +116,14 @@ fn feed_all(rt: &(impl Print + Eprint), trace: &mut impl Read) {
         run,
         out: [0; OUTPUT],
     };
-    let mut input = [0; INPUT];
-    let mut held: usize = 0;
+    let mut held = Held {
+        bytes: [0; INPUT],
+        len: 0,
+    };
     for _ in 0..u64::MAX {
-        let Some(kept) = feed(rt, trace, &mut sheet, &mut input, held) else {
+        if feed(rt, trace, &mut sheet, &mut held).is_none() {
             return;
-        };
-        held = kept;
+        }
     }
 }
 

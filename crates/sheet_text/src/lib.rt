@@ -77,7 +77,7 @@ fn follow(run: &mut [u32; RUN], place: Place, bytes: &[u8], last: bool, out: &mu
     }
 }
 
-// The line that follows k others when the trace has ended: `w` lines, `v` lines, the `e` line.
+// The line that follows k others when the trace has ended: `w` lines, `v` lines, the `e` line. Which it is goes by k alone, as in the definition.
 #[tactic(auto, using(crate::proofs::Lengths::closing_lengths, words::proofs::Reading::people_most), unfolding(lines::specs::Pieces::closing_line))]
 fn put_closing(pen: &mut Pen, run: &[u32; RUN], ending: Ending, k: u8)
     requires { pen.old.at + line_room ≤ length pen.old.out.now }

@@ -1,4 +1,4 @@
-// The lines of the sheet, written into a lent buffer. There must be room for what a pen writes.
+// The lines of the sheet, written into a lent buffer. There must be room for what a pen writes. No `write!`: what each byte is, is proved.
 ghost use Rattle.std.specs.Prelude.{◌/◌, ◌%◌, ◌<◌, ◌≡◌, ◌≤◌, ◌+◌, ◌-◌, [], ◌∷◌, length};
 ghost use Rattle.std.proofs.lemmas.List.Edits.{sets};
 ghost use Rattle.lines.specs.Text as Text;
@@ -6,9 +6,9 @@ ghost use Rattle.sheet_text.specs.Written.{Wrote, Fits};
 
 use words::Standing;
 
-const SPACE: u8 = 0x20;
+const SPACE: u8 = b' ';
 
-const LINE_FEED: u8 = 0x0a;
+const LINE_FEED: u8 = b'\n';
 
 // The ASCII code of a digit; letters are small.
 #[tactic(auto, unfolding(lines::specs::Text::glyph))]
@@ -119,7 +119,7 @@ impl<'a> Pen<'a> {
         ensures { Wrote self.old self.new (Text.h_line p round heard) }
     {
         self.byte(b'h');
-        self.field(p as u32);
+        self.field(u32::from(p));
         self.field(round);
         self.set(heard);
         self.byte(LINE_FEED);
@@ -132,7 +132,7 @@ impl<'a> Pen<'a> {
         ensures { Wrote self.old self.new (Text.w_line p s) }
     {
         self.byte(b'w');
-        self.field(p as u32);
+        self.field(u32::from(p));
         self.field(s.round);
         self.field(s.sending);
         self.field(s.collecting);
@@ -149,7 +149,7 @@ impl<'a> Pen<'a> {
         ensures { Wrote self.old self.new (Text.v_line p s) }
     {
         self.byte(b'v');
-        self.field(p as u32);
+        self.field(u32::from(p));
         self.field(s.value);
         self.choice(s.vote);
         self.choice(s.decision);

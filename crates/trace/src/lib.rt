@@ -47,7 +47,7 @@ impl From<Fault> for Stop {
 // How the replay of a trace ends: the trace is read to its end, or something stops it.
 pub type Ending = Result<(), Stop>;
 
-// What an accepted step has to tell: the process, the round that it finished, and who was heard in it.
+// What an accepted step has to tell: the process, and what the machine reports of it (`Finished`), as one `h` line has them.
 #[derive(Clone, Copy, Debug, PartialEq, Eq)]
 pub struct Heard {
     pub process: u8,
@@ -69,7 +69,7 @@ pub type Turn = Result<Option<Gone>, Stop>;
 // The values of an opening record, at most: its N is one byte.
 const MOST_VALUES: usize = 255;
 
-// Tag and length of a send and of a receive, as one number, and the bytes of either.
+// Tag and length of a send and of a receive, as one number, and the bytes of either. As a slice pattern of their bytes the test takes a tenth longer.
 const SEND: u32 = 0x100002;
 
 const RECEIVE: u32 = 0x110002;
@@ -99,7 +99,7 @@ pub fn at_end(place: Place) -> Ending
     }
 }
 
-// Four bytes, big-endian; there are none past the last.
+// Four bytes, big-endian, from a place on: past the last byte there are zeros, as in the definition, so it takes no part of the bytes.
 #[tactic(auto, unfolding(records::specs::Script::word))]
 fn word(bytes: &[u8], i: usize) -> u32
     requires { i < 1024 }
@@ -125,9 +125,9 @@ fn begin(run: &mut [u32; RUN], n: u8, bytes: &[u8]) -> Verdict
         × (run.new ≡ begins run.old n (Script.words n bytes.now)) }
 {
     let mut values = [0u32; MOST_VALUES];
-    let given = &mut values[..n as usize];
+    let given = &mut values[..usize::from(n)];
     fill(given, bytes);
-    machine::begin(run, n as u32, given)
+    machine::begin(run, u32::from(n), given)
 }
 
 // An opening at the head of the bytes.

@@ -5,4 +5,4 @@ use Rattle.records.specs.Records.{longest}
 use Rattle.sheet.proofs.feed_all.Given as goal
 
 abbrev pub invariant-loop : goal.invariant-loop
-invariant-loop g l = l.held < longest
+invariant-loop g l = l.held.len < longest
