@@ -59,7 +59,7 @@ pub(crate) const CARRIED: usize = 3;
 
 // Where a word stands is said once for each kind of place; a word is read and written by a function of its own for each, so that a caller names a place by
 // what it takes. A word's number within its part is one of the constants above, or a count's, wherever it is given, so that the check finds what is asked
-// of it. They are numbers and no enum: the words of a letter are the first of a line's, and a stage is counted on from COUNTS.
+// of it. They are numbers and no enum: the first words of a letter are those of a line, and a stage is counted on from COUNTS.
 
 // A word of the head.
 pub(crate) fn head(run: &[u32; RUN], k: usize) -> u32

@@ -67,7 +67,7 @@ pub(crate) fn message(run: &[u32; RUN], p: Process, r: u32, q: Process) -> Messa
     Message { value, vote }
 }
 
-// The place of a stage among the counts, in the order S, C, P, I.
+// The place of a stage among the counts, in the order S, C, P, I: nowhere else does a stage become a number.
 #[tactic(auto, using(crate::proofs::Numbers::numbered))]
 pub(crate) fn index(s: Stage) -> usize
     ensures { (result ≡ Stages.index s) × (result < 4) }

@@ -85,7 +85,7 @@ impl TryFrom<u8> for Tag {
     }
 }
 
-// The byte at a place, and 0 past the last one.
+// The byte at a place, and 0 past the last one: as the definition reads a body, a step's has no second byte.
 fn byte(bytes: &[u8], i: usize) -> u8
     ensures { result ≡ get_or bytes.now i 0 }
 {

@@ -134,6 +134,7 @@ pub fn write(run: &mut [u32; RUN], stand: Stand, bytes: &[u8], last: bool, out: 
 }
 
 // Keeps the bytes from one place up to another: they are moved to the front. Answers how many they are; where there are none, nothing is moved.
+// It takes two places and no slice: docs/STATEMENTS.md names it so, and the bytes are moved within the buffer.
 pub fn keep(bytes: &mut [u8], from: usize, to: usize) -> usize
     ensures { BytesKept bytes.old from to result bytes.new }
 {

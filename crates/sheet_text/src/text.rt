@@ -19,7 +19,7 @@ fn glyph(d: u32) -> u8
     if d < 10 { 48 + d as u8 } else { 87 + d as u8 }
 }
 
-// Two digits of a number below a hundred, the first a zero where it has only one. Answers the place behind them.
+// Two digits of a number below a hundred, the first a zero where it has only one. Answers the place behind them. No pen, as `put_decimal`.
 #[tactic(auto, using(crate::proofs::Decimals::writing_digits))]
 fn put_two(out: &mut [u8], at: usize, n: u32) -> usize
     requires { (n < 100) × (at + 2 ≤ length out.old) }
@@ -156,7 +156,7 @@ impl<'a> Pen<'a> {
         self.byte(LINE_FEED);
     }
 
-    // The accepted events, and the number.
+    // The accepted events, and the number: document 01's line ends in one, and so does the definition.
     #[tactic(auto, using(crate::proofs::Writing::writing), unfolding(lines::specs::Text::e_line))]
     pub(crate) fn e_line(&mut self, events: u32, number: u32)
         requires { Fits self.old (Text.e_line events number) }

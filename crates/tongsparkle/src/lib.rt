@@ -40,7 +40,7 @@ fn put_rows(report: &mut [u8; ROOM], run: &[u32; RUN])
     }
 }
 
-// Replays the trace, writes the report of what was accepted, and gives the number of document 01.
+// Replays the trace, writes the report of what was accepted, and gives the number of document 01, since C gets numbers.
 pub fn tongsparkle_replay(trace: &[u8], report: &mut [u8]) -> u32
     ensures { Reported trace.now report.old result report.new }
 {

@@ -1,4 +1,5 @@
 // The C side of the monitoring service's call: the export that include/tongsparkle.h declares, with the clause of `tongsparkle`'s own call.
+// A crate of its own: no crate can stand on a static library, so what others use is in `tongsparkle`. C gets a number, and no enum.
 #![tactic(auto)]
 
 ghost use Rattle.tongsparkle.specs.Report.{Reported};

@@ -69,7 +69,8 @@ pub type Turn = Result<Option<Gone>, Stop>;
 // The values of an opening record, at most: its N is one byte.
 const MOST_VALUES: usize = 255;
 
-// Tag and length of a send and of a receive, as one number, and the bytes of either. As a slice pattern of their bytes the test takes a tenth longer.
+// Tag and length of a send and of a receive, as one number, and the bytes of either. By a slice pattern of their bytes the sheet of N = 16 takes a tenth
+// longer.
 const SEND: u32 = 0x100002;
 
 const RECEIVE: u32 = 0x110002;
@@ -99,7 +100,7 @@ pub fn at_end(place: Place) -> Ending
     }
 }
 
-// Four bytes, big-endian, from a place on: past the last byte there are zeros, as in the definition, so it takes no part of the bytes.
+// Four bytes, big-endian, from a place on: past the last byte there are zeros, as in the definition, so it takes a place, and not the bytes from there on.
 #[tactic(auto, unfolding(records::specs::Script::word))]
 fn word(bytes: &[u8], i: usize) -> u32
     requires { i < 1024 }
