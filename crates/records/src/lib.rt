@@ -187,15 +187,16 @@ pub fn read(bytes: &[u8], place: Place) -> Result<Option<Record>, Fault>
     }
 }
 
-// How many bytes a whole record has.
-#[tactic(auto, unfolding(crate::specs::Records::extent, crate::specs::Records::event_extent))]
-pub fn extent(found: Record) -> usize
-    ensures { result ≡ Records.extent found }
+// How many bytes a whole record has; 0 for what is none. It takes all that `read` may answer, so that nobody asks first.
+#[tactic(auto, unfolding(crate::specs::Records::extent_of, crate::specs::Records::extent, crate::specs::Records::event_extent))]
+pub fn extent(found: Result<Option<Record>, Fault>) -> usize
+    ensures { result ≡ Records.extent_of found }
 {
     match found {
-        Record::Opening(n) => 4 + 4 * usize::from(n),
-        Record::Happens(Event::Send(_, _) | Event::Receive(_, _)) => 5,
-        Record::Happens(Event::Step(_) | Event::Broadcast(_)) => 4,
-        Record::End => 3,
+        Ok(Some(Record::Opening(n))) => 4 + 4 * usize::from(n),
+        Ok(Some(Record::Happens(Event::Send(_, _) | Event::Receive(_, _)))) => 5,
+        Ok(Some(Record::Happens(Event::Step(_) | Event::Broadcast(_)))) => 4,
+        Ok(Some(Record::End)) => 3,
+        Ok(None) | Err(_) => 0,
     }
 }

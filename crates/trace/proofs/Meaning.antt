@@ -6,7 +6,7 @@ use mathlib.Core.Path.{◌≡◌, refl, ◌∙◌}
 use mathlib.Core.Bool.{Bool, true, false, cond}
 use mathlib.Core.List.{List}
 use lib.ListN.{length}
-use Rattle.rounds.specs.Verdicts.{Verdict}
+use Rattle.rounds.specs.Verdicts.{Verdict, number_of}
 use Rattle.rounds.specs.Verdicts.{Accepted}
 use Rattle.rounds.specs.Config.{Config, opening}
 use Rattle.rounds.specs.Verdicts.{accepted, open_verdict}
@@ -108,7 +108,7 @@ fault_some BytesBehind e = omega arith
 
 -- what ends in 0 behind a night is an accepted one
 accepted_night : (v : Verdict) (x : Ending) → ending_number (ended_by v x) ≡ 0 → v ≡ Accepted
-unfolding ended_by ending_number
+unfolding ended_by ending_number number_of
 accepted_night (Ok u) x e = refl
 accepted_night (Err r) x e = absurd (refusal_some r e)
 

@@ -2,7 +2,7 @@
 -- report. Assumes nothing.
 use Rattle.std.specs.Prelude.{ℕ, List, [], Some, None, Result, Ok, Err, ⊤}
 use Rattle.rounds.specs.Config.{Config, no_run}
-use Rattle.rounds.specs.Verdicts.{Verdict, refusal_number}
+use Rattle.rounds.specs.Verdicts.{Verdict, number_of}
 use Rattle.rounds.specs.Runs.{Report, night_verdict, night, night_reports}
 use Rattle.records.specs.declared.Place.{Place}
 use Rattle.records.specs.declared.Place.TheVariants.{First, Later, Behind}
@@ -17,10 +17,10 @@ use Rattle.trace.specs.declared.Stop.TheVariants.{Refused, Faulty}
 abbrev pub Ending : Type 0
 Ending = Result ⊤ Stop
 
--- the numbers of document 01
+-- the numbers of document 01: those of a verdict, and of a fault
 unfoldable pub ending_number : Ending → ℕ
-ending_number (Ok _) = 0
-ending_number (Err (Refused r)) = refusal_number r
+ending_number (Ok x) = number_of (Ok x)
+ending_number (Err (Refused r)) = number_of (Err r)
 ending_number (Err (Faulty f)) = fault_number f
 
 -- ---- where the input ends: only behind the end record has the trace been read to its end

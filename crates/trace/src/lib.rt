@@ -83,7 +83,7 @@ pub fn number(e: Ending) -> u32
     ensures { result ≡ Outcome.ending_number e }
 {
     match e {
-        Ok(()) => 0,
+        Ok(()) => rounds::number(Ok(())),
         Err(Stop::Refused(refusal)) => rounds::number(Err(refusal)),
         Err(Stop::Faulty(fault)) => records::number(fault),
     }
@@ -132,13 +132,13 @@ fn begin(run: &mut [u32; RUN], n: u8, bytes: &[u8]) -> Verdict
 }
 
 // An opening at the head of the bytes.
-#[tactic(auto, unfolding(crate::specs::Turns::on_opening, crate::specs::Turns::passes, records::specs::Records::extent, records::specs::Script::values_of))]
+#[tactic(auto, unfolding(crate::specs::Turns::on_opening, crate::specs::Turns::passes, records::specs::Records::extent_of, records::specs::Records::extent, records::specs::Script::values_of))]
 fn opened(run: &mut [u32; RUN], n: u8, bytes: &[u8]) -> Turn
     requires { 4 + 4 * n ≤ length bytes.now }
     ensures { (result ≡ Turns.on_opening n (Script.values_of n bytes.now))
         × (run.new ≡ begins run.old n (Script.values_of n bytes.now)) }
 {
-    let used = records::extent(Record::Opening(n));
+    let used = records::extent(Ok(Some(Record::Opening(n))));
     begin(run, n, &bytes[4..used])?;
     Ok(Some(Gone {
         used,
@@ -170,13 +170,13 @@ fn tells(e: Event, reported: Option<Finished>) -> Option<Heard>
 }
 
 // An event at the head of the bytes.
-#[tactic(auto, unfolding(crate::specs::Turns::on_answer, crate::specs::Turns::passes, words::specs::Shows::verdict_of, crate::specs::Turns::tells))]
+#[tactic(auto, unfolding(crate::specs::Turns::on_answer, crate::specs::Turns::passes, words::specs::Shows::verdict_of, crate::specs::Turns::tells, records::specs::Records::extent_of))]
 fn happened(run: &mut [u32; RUN], e: Event) -> Turn
     ensures { (result ≡ Turns.on_answer e (answer (control_of run.old) e)) × (run.new ≡ applied run.old e) }
 {
     let reported = machine::apply(run, e)?;
     Ok(Some(Gone {
-        used: records::extent(Record::Happens(e)),
+        used: records::extent(Ok(Some(Record::Happens(e)))),
         place: Place::Later,
         told: tells(e, reported),
     }))
@@ -196,7 +196,7 @@ pub fn one_record(run: &mut [u32; RUN], bytes: &[u8], place: Place) -> Turn
         Record::Opening(n) => opened(run, n, bytes),
         Record::Happens(e) => happened(run, e),
         Record::End => Ok(Some(Gone {
-            used: records::extent(Record::End),
+            used: records::extent(Ok(Some(Record::End))),
             place: Place::Behind,
             told: None,
         })),

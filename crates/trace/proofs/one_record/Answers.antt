@@ -42,7 +42,7 @@ pub returns-in-Happens-clause-meaning : goal.returns-in-Happens-clause-meaning
 returns-in-Happens-clause-meaning c = (one_record_meant _ _ _ (returns-in-Happens-clause-exact c)).1
 
 pub returns-in-End-clause-exact : goal.returns-in-End-clause-exact
-unfolding turn turned turn_on words_on
+unfolding turn turned turn_on words_on extent_of
 returns-in-End-clause-exact c = search rules
 
 pub returns-in-End-clause-meaning : goal.returns-in-End-clause-meaning
