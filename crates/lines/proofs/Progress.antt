@@ -15,10 +15,9 @@ use Rattle.words.specs.Spelled.{control_of}
 use Rattle.words.proofs.Reading.{people_most}
 use Rattle.records.specs.declared.Place.{Place}
 use Rattle.trace.specs.declared.Gone.{Gone}
-use Rattle.trace.specs.Outcome.{Ending}
 use Rattle.trace.specs.Turns.{Turn}
 use Rattle.std.specs.Prelude.{Some, None, Ok, Err}
-use Rattle.trace.specs.Outcome.{at_end}
+use Rattle.trace.specs.Outcome.{ending_number, at_end}
 use Rattle.trace.specs.Turns.{turn, turned}
 use Rattle.trace.proofs.Looping.{goes_within}
 use Rattle.lines.specs.declared.Stand.{Stand}
@@ -69,13 +68,13 @@ module _ (last : Bool) where
   unfolding Near IfRoom rests ahead distance
   rests_near pl m held = omega arith
 
-  closes_near : (ending : Ending) (m : Mem) (held : List ℕ) → Near most_lines held (rests (Closes ending 0) m wants.Room)
+  closes_near : (number : ℕ) (m : Mem) (held : List ℕ) → Near most_lines held (rests (Closes number 0) m wants.Room)
   unfolding Near IfRoom rests ahead
-  closes_near ending m held = let few = few_lines m in omega arith
+  closes_near number m held = let few = few_lines m in omega arith
 
   waits_near : (b : Bool) (pl : Place) (m : Mem) (held : List ℕ) → Near most_lines held (waits b pl m)
   unfolding waits Near IfRoom rests
-  waits_near true pl m held = closes_near (at_end pl) m held
+  waits_near true pl m held = closes_near (ending_number (at_end pl)) m held
   waits_near false pl m held = tt
 
   full_near : (b : Bool) (pl : Place) (m : Mem) (held : List ℕ) (x : Part) → Near (distance held) held x
@@ -95,8 +94,8 @@ module _ (last : Bool) where
       near_adds g.used (distance (drop g.used held)) (length held + most_lines) (told_text g.told) held (next g)
       (omega (arith, length-drop g.used held, within.0, within.1)) (f g e)
   turn_near pl m held (Err x) e next f =
-      nearer most_lines (length held + most_lines) held (rests (Closes (Err x) 0) (turned pl m held) wants.Room) (omega arith)
-      (closes_near (Err x) (turned pl m held) held)
+      nearer most_lines (length held + most_lines) held (rests (Closes (ending_number (Err x)) 0) (turned pl m held) wants.Room) (omega arith)
+      (closes_near (ending_number (Err x)) (turned pl m held) held)
 
   follow_near : (bs : List ℕ) (room k : ℕ) (pl : Place) (m : Mem) → Near (distance (drop k bs)) (drop k bs) (follow last room k pl m bs)
   unfolding follow distance
@@ -113,17 +112,17 @@ module _ (last : Bool) where
       rw q at (follow_near bs (room - length (told_text g.told)) (g.used - 1) g.place (turned pl m (b ∷ bs)))))))
 
 -- ---- when it has ended
-closing_near : (j room : ℕ) (ending : Ending) (k : ℕ) (m : Mem) (held : List ℕ) → closing_count m - k ≡ j → Near j held (closing room j ending k m)
+closing_near : (j room number k : ℕ) (m : Mem) (held : List ℕ) → closing_count m - k ≡ j → Near j held (closing room j number k m)
 unfolding closing Near IfRoom rests ahead
-closing_near zero room ending k m held e = tt
-closing_near (suc j) room ending k m held e = go (ltb room line_room) (closing_near j (room - length (closing_line m ending k)) ending (k + 1) m held (omega arith))
+closing_near zero room number k m held e = tt
+closing_near (suc j) room number k m held e = go (ltb room line_room) (closing_near j (room - length (closing_line m number k)) number (k + 1) m held (omega arith))
   where
-    go : (b : Bool) → Near j held (closing (room - length (closing_line m ending k)) j ending (k + 1) m)
+    go : (b : Bool) → Near j held (closing (room - length (closing_line m number k)) j number (k + 1) m)
         → Near (suc j) held
-        (cond b (rests (Closes ending k) m wants.Room)
-        (adds 0 (closing_line m ending k) (closing (room - length (closing_line m ending k)) j ending (k + 1) m)))
+        (cond b (rests (Closes number k) m wants.Room)
+        (adds 0 (closing_line m number k) (closing (room - length (closing_line m number k)) j number (k + 1) m)))
     go true h = omega arith
-    go false h = near_adds 0 j (suc j) (closing_line m ending k) held _ (omega arith) h
+    go false h = near_adds 0 j (suc j) (closing_line m number k) held _ (omega arith) h
 
 -- ---- with room for a line
 Nearer : ℕ → List ℕ → Part → Type 0
@@ -146,21 +145,21 @@ follow_nearer last room pl m held wide =
     (turn_near last pl m held (turn pl (control_of m) held) refl _
     (λ g e. follow_near last (drop g.used held) (room - length (told_text g.told)) 0 g.place (turned pl m held))))
 
-closing_nearer : (j room : ℕ) (ending : Ending) (k : ℕ) (m : Mem) (held : List ℕ) → line_room ≤ room → closing_count m - k ≡ j
-    → Nearer j held (closing room j ending k m)
+closing_nearer : (j room number k : ℕ) (m : Mem) (held : List ℕ) → line_room ≤ room → closing_count m - k ≡ j
+    → Nearer j held (closing room j number k m)
 unfolding closing Nearer IfRoom rests
-closing_nearer zero room ending k m held wide e = tt
-closing_nearer (suc j) room ending k m held wide e =
+closing_nearer zero room number k m held wide e = tt
+closing_nearer (suc j) room number k m held wide e =
     let s : suc j ≡ j + 1 = omega arith in
     rw (le-ltb room line_room wide, s)
     (strictly j held _
-    (near_adds 0 j j (closing_line m ending k) held _ (omega arith)
-    (closing_near j (room - length (closing_line m ending k)) ending (k + 1) m held (omega arith))))
+    (near_adds 0 j j (closing_line m number k) held _ (omega arith)
+    (closing_near j (room - length (closing_line m number k)) number (k + 1) m held (omega arith))))
 
 piece_nearer : (last : Bool) (room : ℕ) (s : Stand) (m : Mem) (held : List ℕ) → line_room ≤ room → Nearer (ahead s m held) held (piece last room s m held)
 unfolding piece ahead
 piece_nearer last room (Reads pl) m held wide = follow_nearer last room pl m held wide
-piece_nearer last room (Closes ending k) m held wide = closing_nearer (closing_count m - k) room ending k m held wide refl
+piece_nearer last room (Closes number k) m held wide = closing_nearer (closing_count m - k) room number k m held wide refl
 
 pub goes_nearer : (last : Bool) (room : ℕ) (s : Stand) (m : Mem) (held : List ℕ) (x : Part) → line_room ≤ room → x ≡ piece last room s m held
     → x.wants ≡ wants.Room → ahead x.stand x.words (drop x.used held) < ahead s m held

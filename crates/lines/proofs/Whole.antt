@@ -21,7 +21,7 @@ use Rattle.trace.specs.declared.Stop.{Stop}
 use Rattle.trace.specs.Outcome.{Ending}
 use Rattle.trace.specs.Turns.{Turn, More, Goes, Ends}
 use Rattle.std.specs.Prelude.{Option, Some, None, Ok, Err}
-use Rattle.trace.specs.Outcome.{at_end, outcome}
+use Rattle.trace.specs.Outcome.{ending_number, at_end, outcome}
 use Rattle.trace.specs.Turns.{reports_of, turn, turned, trace_words}
 use Rattle.trace.proofs.Turning.{ahead, more_ahead, goes_ahead, ends_ahead, ahead_ends}
 use Rattle.trace.proofs.Telling.{told_ahead, more_tells, goes_tells, ends_tells, told_from_the_start}
@@ -52,20 +52,20 @@ module _ (w unread : List ℕ) where
     lines : h_lines (outcome w).reports ≡ text ++ h_lines (told_ahead pl m (held ++ unread))
 
   -- when it has ended: how, and the words are those of the trace, and the text is all that it reports and so many lines more
-  record Closing (ending : Ending) (k : ℕ) (m : Mem) (text : List ℕ) : Type 0 where
-    right : ending ≡ (outcome w).ending
+  record Closing (number k : ℕ) (m : Mem) (text : List ℕ) : Type 0 where
+    right : number ≡ ending_number (outcome w).ending
     words : m ≡ trace_words w
     within : k ≤ closing_count m
-    lines : text ≡ h_lines (outcome w).reports ++ lines_below k (closing_line m ending)
+    lines : text ≡ h_lines (outcome w).reports ++ lines_below k (closing_line m number)
 
   Holds : Stand → Mem → List ℕ → List ℕ → Type 0
   Holds (Reads pl) m held text = Reading pl m held text
-  Holds (Closes ending k) m held text = Closing ending k m text
+  Holds (Closes number k) m held text = Closing number k m text
 
   -- only where all lines are written is nothing waited for
   All : Stand → Mem → Type 0
   All (Reads pl) m = ⊥
-  All (Closes ending k) m = closing_count m ≤ k
+  All (Closes number k) m = closing_count m ≤ k
 
   Whole : Wants → Stand → Mem → Type 0
   Whole wants.Input s m = Unit {0}
@@ -91,11 +91,11 @@ module _ (w unread : List ℕ) where
 
   -- ---- where the trace has ended
   closes : (x : Ending) (m : Mem) (text : List ℕ) → ahead First blank w ≡ record { ending = x; words = m } → h_lines (outcome w).reports ≡ text
-      → Closing x 0 m text
+      → Closing (ending_number x) 0 m text
   unfolding lines_below
   closes x m text e h =
       let is = ahead_ends w e in
-      record { right = is.0; words = is.1; within = omega arith; lines = rw h (sym (append-nil text)) }
+      record { right = ap ending_number is.0; words = is.1; within = omega arith; lines = rw h (sym (append-nil text)) }
 
   -- ---- a turn on the bytes at hand
   module _ (pl : Place) (m : Mem) (held text : List ℕ) (h : Reading pl m held text) where
@@ -106,7 +106,7 @@ module _ (w unread : List ℕ) where
     unfolding h_lines
     nothing_told e = h.lines ∙ rw e (append-nil text)
 
-    at_ends : (x : Stop) → turn pl (control_of m) held ≡ Ends x → Closing (Err x) 0 after text
+    at_ends : (x : Stop) → turn pl (control_of m) held ≡ Ends x → Closing (ending_number (Err x)) 0 after text
     at_ends x e =
         let whole = ends_not e in
         let q : turn pl (control_of m) (held ++ unread) ≡ Ends x = turn_more held unread pl (control_of m) whole ∙ e in
@@ -114,7 +114,7 @@ module _ (w unread : List ℕ) where
         (sym h.same ∙ ends_ahead pl m (held ++ unread) q ∙ rw (turned_more held unread pl (control_of m) m whole))
         (nothing_told (ends_tells pl m (held ++ unread) q))
 
-    at_last : unread ≡ [] → turn pl (control_of m) held ≡ More → Closing (at_end pl) 0 after text
+    at_last : unread ≡ [] → turn pl (control_of m) held ≡ More → Closing (ending_number (at_end pl)) 0 after text
     at_last none e =
         let all : held ++ unread ≡ held = rw none (append-nil held) in
         let q : turn pl (control_of m) (held ++ unread) ≡ More = rw all e in
@@ -147,7 +147,7 @@ module _ (w unread : List ℕ) where
 
     waits_kept : (last : Bool) → (last ≡ true → unread ≡ []) → turn pl (control_of m) held ≡ More → Kept held text (waits last pl after)
     unfolding waits Holds Whole
-    waits_kept true none e = kept_rests (Closes (at_end pl) 0) after wants.Room held text (at_last (none refl) e) tt
+    waits_kept true none e = kept_rests (Closes (ending_number (at_end pl)) 0) after wants.Room held text (at_last (none refl) e) tt
     waits_kept false none e = kept_rests (Reads pl) after wants.Input held text (at_more e) tt
 
     turn_kept : (last : Bool) → (last ≡ true → unread ≡ []) → (t : Turn) → turn pl (control_of m) held ≡ t → (next : Gone → Part)
@@ -156,7 +156,7 @@ module _ (w unread : List ℕ) where
     unfolding on_turn Holds Whole
     turn_kept last none (Ok None) e next f = waits_kept last none e
     turn_kept last none (Ok (Some g)) e next f = kept_adds g.used (told_text g.told) held text (next g) (f g e)
-    turn_kept last none (Err x) e next f = kept_rests (Closes (Err x) 0) after wants.Room held text (at_ends x e) tt
+    turn_kept last none (Err x) e next f = kept_rests (Closes (ending_number (Err x)) 0) after wants.Room held text (at_ends x e) tt
 
   -- ---- a piece while the trace is read
   follow_kept : (last : Bool) → (last ≡ true → unread ≡ []) → (bs : List ℕ) (room k : ℕ) (pl : Place) (m : Mem) (text : List ℕ)
@@ -178,38 +178,38 @@ module _ (w unread : List ℕ) where
       (rw (← q) at (at_goes pl m (b ∷ bs) text h g.used g.place g.told e))))))
 
   -- ---- a piece when it has ended
-  one_more : (ending : Ending) (k : ℕ) (m : Mem) (text : List ℕ) → k < closing_count m → Closing ending k m text
-      → Closing ending (k + 1) m (text ++ closing_line m ending k)
+  one_more : (number k : ℕ) (m : Mem) (text : List ℕ) → k < closing_count m → Closing number k m text
+      → Closing number (k + 1) m (text ++ closing_line m number k)
   unfolding lines_below
-  one_more ending k m text l h =
+  one_more number k m text l h =
       record {
         right = h.right;
         words = h.words;
         within = omega arith;
-        lines = rw (h.lines, add-one k) (append_assoc (h_lines (outcome w).reports) (lines_below k (closing_line m ending)) (closing_line m ending k));
+        lines = rw (h.lines, add-one k) (append_assoc (h_lines (outcome w).reports) (lines_below k (closing_line m number)) (closing_line m number k));
       }
 
-  line_kept : (b : Bool) (ending : Ending) (k : ℕ) (m : Mem) (held text : List ℕ) (x : Part) → Closing ending k m text
-      → Kept held (text ++ closing_line m ending k) x → Kept held text (cond b (rests (Closes ending k) m wants.Room) (adds 0 (closing_line m ending k) x))
+  line_kept : (b : Bool) (number k : ℕ) (m : Mem) (held text : List ℕ) (x : Part) → Closing number k m text
+      → Kept held (text ++ closing_line m number k) x → Kept held text (cond b (rests (Closes number k) m wants.Room) (adds 0 (closing_line m number k) x))
   unfolding Holds Whole
-  line_kept true ending k m held text x h y = kept_rests (Closes ending k) m wants.Room held text h tt
-  line_kept false ending k m held text x h y = kept_adds 0 (closing_line m ending k) held text x y
+  line_kept true number k m held text x h y = kept_rests (Closes number k) m wants.Room held text h tt
+  line_kept false number k m held text x h y = kept_adds 0 (closing_line m number k) held text x y
 
-  closing_kept : (j room : ℕ) (ending : Ending) (k : ℕ) (m : Mem) (held text : List ℕ) → closing_count m - k ≡ j → Closing ending k m text
-      → Kept held text (closing room j ending k m)
+  closing_kept : (j room number k : ℕ) (m : Mem) (held text : List ℕ) → closing_count m - k ≡ j → Closing number k m text
+      → Kept held text (closing room j number k m)
   unfolding closing Holds Whole All
-  closing_kept zero room ending k m held text e h = kept_rests (Closes ending k) m wants.Nothing held text h (omega arith)
-  closing_kept (suc j) room ending k m held text e h =
-      line_kept (ltb room line_room) ending k m held text _ h
-      (closing_kept j (room - length (closing_line m ending k)) ending (k + 1) m held (text ++ closing_line m ending k) (omega arith)
-      (one_more ending k m text (omega arith) h))
+  closing_kept zero room number k m held text e h = kept_rests (Closes number k) m wants.Nothing held text h (omega arith)
+  closing_kept (suc j) room number k m held text e h =
+      line_kept (ltb room line_room) number k m held text _ h
+      (closing_kept j (room - length (closing_line m number k)) number (k + 1) m held (text ++ closing_line m number k) (omega arith)
+      (one_more number k m text (omega arith) h))
 
   -- ---- any piece
   piece_kept : (last : Bool) → (last ≡ true → unread ≡ []) → (room : ℕ) (s : Stand) (m : Mem) (held text : List ℕ) → Holds s m held text
       → Kept held text (piece last room s m held)
   unfolding piece Holds
   piece_kept last none room (Reads pl) m held text h = follow_kept last none held room 0 pl m text h
-  piece_kept last none room (Closes ending k) m held text h = closing_kept (closing_count m - k) room ending k m held text refl h
+  piece_kept last none room (Closes number k) m held text h = closing_kept (closing_count m - k) room number k m held text refl h
 
 -- ---- so all that a session comes to is right
 taken : (w part unread : List ℕ) (s : Stand) (m : Mem) (held text : List ℕ) → Holds w (part ++ unread) s m held text
@@ -217,7 +217,7 @@ taken : (w part unread : List ℕ) (s : Stand) (m : Mem) (held text : List ℕ) 
 unfolding Holds
 taken w part unread (Reads pl) m held text h =
     record { same = rw (append_assoc held part unread) h.same; lines = rw (append_assoc held part unread) h.lines }
-taken w part unread (Closes ending k) m held text h = record { right = h.right; words = h.words; within = h.within; lines = h.lines }
+taken w part unread (Closes number k) m held text h = record { right = h.right; words = h.words; within = h.within; lines = h.lines }
 
 holds : {w unread held text : List ℕ} {s : Stand} {m : Mem} → Session w unread s m held text → Holds w unread s m held text
 unfolding Holds first
@@ -227,12 +227,12 @@ holds {w} {unread} (writes {held = held} {text} {s} {m} h last none room x e) =
     rw e (piece_kept w unread last none room s m held text (holds h)).holds
 
 -- ---- where all lines are written
-all_lines : (w unread : List ℕ) (ending : Ending) (k : ℕ) (m : Mem) (text : List ℕ) → Closing w unread ending k m text → closing_count m ≤ k → text ≡ sheet w
+all_lines : (w unread : List ℕ) (number k : ℕ) (m : Mem) (text : List ℕ) → Closing w unread number k m text → closing_count m ≤ k → text ≡ sheet w
 unfolding sheet sheet_of
-all_lines w unread ending k m text h a =
+all_lines w unread number k m text h a =
     let q : k ≡ closing_count m = omega (arith, h.within) in
     h.lines
-    ∙ rw (q, h.words, closing_lines (trace_words w) (outcome w).config (trace_shows w) ending, h.right)
+    ∙ rw (q, h.words, closing_lines (trace_words w) (outcome w).config (trace_shows w) number, h.right)
 
 -- ---- where a piece waits for nothing, the text and the piece are the sheet of the trace
 pub pieces_add_up : {w unread held text : List ℕ} {s : Stand} {m : Mem} → Session w unread s m held text
@@ -245,4 +245,4 @@ pieces_add_up {w} {unread} {held} {text} {s} {m} h last none room x e z =
   where
     finish : (s : Stand) (m : Mem) (held text : List ℕ) → Holds w unread s m held text → All w unread s m → text ≡ sheet w
     finish (Reads pl) m held text h a = absurd a
-    finish (Closes ending k) m held text h a = all_lines w unread ending k m text h a
+    finish (Closes number k) m held text h a = all_lines w unread number k m text h a

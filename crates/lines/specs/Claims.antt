@@ -26,4 +26,4 @@ pub data Session (w : List ℕ) : List ℕ → Stand → Mem → List ℕ → Li
 -- ---- how far a piece is from the end of what is at hand: the bytes that are held, and the lines that close the sheet
 unfoldable pub ahead : Stand → Mem → List ℕ → ℕ
 ahead (Reads pl) m held = length held + (most_processes + most_processes + 1) + 1
-ahead (Closes x k) m held = closing_count m - k
+ahead (Closes number k) m held = closing_count m - k

@@ -10,7 +10,7 @@ use Rattle.records.specs.Stored.{over}
 use Rattle.trace.specs.declared.Heard.{Heard}
 use Rattle.trace.specs.declared.Gone.{Gone}
 use Rattle.std.specs.Prelude.{Option, Some, None, Ok, Err}
-use Rattle.trace.specs.Outcome.{Ending, ending_number, at_end}
+use Rattle.trace.specs.Outcome.{ending_number, at_end}
 use Rattle.trace.specs.Turns.{Turn, turn, turned}
 use Rattle.lines.specs.declared.Stand.{Stand}
 use Rattle.lines.specs.declared.Stand.TheVariants.{Reads, Closes}
@@ -46,14 +46,14 @@ told_text (Some t) = h_line t.process t.round t.heard
 
 -- where bytes are missing: the last of the trace have come, or more are waited for
 unfoldable pub waits : Bool → Place → Mem → Part
-waits true pl m = rests (Closes (at_end pl) 0) m wants.Room
+waits true pl m = rests (Closes (ending_number (at_end pl)) 0) m wants.Room
 waits false pl m = rests (Reads pl) m wants.Input
 
 -- what comes of a record, where m is the memory after it; `next` reads on behind what has gone
 unfoldable pub on_turn : Bool → Place → Mem → Turn → (Gone → Part) → Part
 on_turn last pl m (Ok None) next = waits last pl m
 on_turn last pl m (Ok (Some g)) next = adds g.used (told_text g.told) (next g)
-on_turn last pl m (Err x) next = rests (Closes (Err x) 0) m wants.Room
+on_turn last pl m (Err x) next = rests (Closes (ending_number (Err x)) 0) m wants.Room
 
 -- behind the next k bytes
 unfoldable pub follow : Bool → ℕ → ℕ → Place → Mem → List ℕ → Part
@@ -64,27 +64,27 @@ follow last room zero pl m (b ∷ bs) =
     (on_turn last pl (turned pl m (b ∷ bs)) (turn pl (control_of m) (b ∷ bs))
     (λ g. follow last (room - length (told_text g.told)) (g.used - 1) g.place (turned pl m (b ∷ bs)) bs))
 
--- ---- when the trace has ended: the `w` lines, the `v` lines, and the `e` line
-unfoldable pub closing_line : Mem → Ending → ℕ → List ℕ
-closing_line m ending k =
+-- ---- when the trace has ended with a number: the `w` lines, the `v` lines, and the `e` line
+unfoldable pub closing_line : Mem → ℕ → ℕ → List ℕ
+closing_line m number k =
     let n = people m in
     cond (ltb k n) (w_line k (standing_of m k))
-    (cond (ltb k (n + n)) (v_line (k - n) (standing_of m (k - n))) (e_line (control_of m).events (ending_number ending)))
+    (cond (ltb k (n + n)) (v_line (k - n) (standing_of m (k - n))) (e_line (control_of m).events number))
 
 unfoldable pub closing_count : Mem → ℕ
 closing_count m = people m + people m + 1
 
 -- j lines are left, and k are written
-unfoldable pub closing : ℕ → ℕ → Ending → ℕ → Mem → Part
-closing room zero ending k m = rests (Closes ending k) m wants.Nothing
-closing room (suc j) ending k m =
-    cond (ltb room line_room) (rests (Closes ending k) m wants.Room)
-    (adds 0 (closing_line m ending k) (closing (room - length (closing_line m ending k)) j ending (k + 1) m))
+unfoldable pub closing : ℕ → ℕ → ℕ → ℕ → Mem → Part
+closing room zero number k m = rests (Closes number k) m wants.Nothing
+closing room (suc j) number k m =
+    cond (ltb room line_room) (rests (Closes number k) m wants.Room)
+    (adds 0 (closing_line m number k) (closing (room - length (closing_line m number k)) j number (k + 1) m))
 
 -- ---- either
 unfoldable pub piece : Bool → ℕ → Stand → Mem → List ℕ → Part
 piece last room (Reads pl) m w = follow last room 0 pl m w
-piece last room (Closes ending k) m w = closing room (closing_count m - k) ending k m
+piece last room (Closes number k) m w = closing room (closing_count m - k) number k m
 
 -- ---- what is answered of a piece, and what it leaves in the memory and in the buffer
 unfoldable pub said : Part → Piece

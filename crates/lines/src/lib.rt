@@ -2,15 +2,15 @@
 #![tactic(auto)]
 
 use records::Place;
-use trace::Ending;
 
 // Where the writing of a sheet stands.
 #[derive(Clone, Copy, Debug, PartialEq, Eq)]
 pub enum Stand {
     // The trace is read, and has come to this place.
     Reads(Place),
-    // The trace has ended so, and so many of the lines that follow the `h` lines are written.
-    Closes(Ending, u8),
+    // The trace has ended with this number, and so many of the lines that follow the `h` lines are written. A number and no `Ending`: whoever hands one
+    // over may hand over any.
+    Closes(u32, u8),
 }
 
 // What the next piece waits for.

@@ -20,7 +20,7 @@ use Rattle.trace.specs.declared.Stop.{Stop}
 use Rattle.trace.specs.declared.Gone.{Gone}
 use Rattle.trace.specs.Outcome.{Ending}
 use Rattle.trace.specs.Turns.{Turn, More, Ends}
-use Rattle.trace.specs.Outcome.{at_end}
+use Rattle.trace.specs.Outcome.{ending_number, at_end}
 use Rattle.trace.specs.Turns.{turn, turned}
 use Rattle.trace.specs.Haste.{haste}
 use Rattle.trace.proofs.Looping.{goes_within}
@@ -159,10 +159,10 @@ module _ {last : Bool} {x : Part} {w : List ℕ} {pl : Place} {m : Mem} {first p
         part = decides (Ok (Some g)) e ∙ adds_adds used g.used c.so.text (told_text g.told) _ ∙ rw (less, drop-drop g.used used w);
       }
 
-  pub ends_came : {y : Stop} → t ≡ Ends y
-      → Came x w first.out.now (record { used = used; written = pen.at; stand = Closes (Err y) 0; wants = wants.Room }) m pen.out.now
+  pub ends_came : {y : Stop} {n : ℕ} → t ≡ Ends y → n ≡ ending_number (Err y)
+      → Came x w first.out.now (record { used = used; written = pen.at; stand = Closes n 0; wants = wants.Room }) m pen.out.now
   unfolding on_turn
-  ends_came {y} e = came c.so.text c.so.within c.so.begun (λ i. absurd (not_room i)) (decides (Ends y) e)
+  ends_came {y} e a = rw a (came c.so.text c.so.within c.so.begun (λ i. absurd (not_room i)) (decides (Ends y) e))
 
   pub more_came : ((i : ℕ) → get_or w i 0 < 256) → t ≡ More → last ≡ false
       → Came x w first.out.now (record { used = used; written = pen.at; stand = Reads pl; wants = wants.Input }) m pen.out.now
@@ -172,10 +172,10 @@ module _ {last : Bool} {x : Part} {w : List ℕ} {pl : Place} {m : Mem} {first p
       let few = cut_short pl (drop used w) (rw (get_or-drop used w 3 0) (bytes (used + 3))) cut in
       came c.so.text c.so.within c.so.begun (λ i. omega (arith, few, length-drop used w)) (decides More e ∙ rw q)
 
-  pub last_came : {y : Ending} → t ≡ More → last ≡ true → y ≡ at_end pl
-      → Came x w first.out.now (record { used = used; written = pen.at; stand = Closes y 0; wants = wants.Room }) m pen.out.now
+  pub last_came : {y : Ending} {n : ℕ} → t ≡ More → last ≡ true → y ≡ at_end pl → n ≡ ending_number y
+      → Came x w first.out.now (record { used = used; written = pen.at; stand = Closes n 0; wants = wants.Room }) m pen.out.now
   unfolding on_turn waits
-  last_came e q a = rw a (came c.so.text c.so.within c.so.begun (λ i. absurd (not_room i)) (decides More e ∙ rw q))
+  last_came e q a b = rw (b, a) (came c.so.text c.so.within c.so.begun (λ i. absurd (not_room i)) (decides More e ∙ rw q))
 
 pub none_gone : (last : Bool) (w : List ℕ) (pl : Place) (m : Mem) {pen : Pen} → pen.at ≡ 0
     → Along last (follow last (length pen.out.now) 0 pl m w) w pl m pen pen 0
@@ -184,13 +184,13 @@ none_gone last w pl m {pen} z =
     record { within = omega arith; text = []; begun = begun_none z; part = rw e (adds_none (follow last (length pen.out.now) 0 pl m w)) }
 
 -- ---- the loop that closes
-pub record Shut (x : Part) (m : Mem) (ending : Ending) (first pen : Pen) (k : ℕ) : Type 0 where
+pub record Shut (x : Part) (m : Mem) (number : ℕ) (first pen : Pen) (k : ℕ) : Type 0 where
   pub text : List ℕ
   pub begun : Begun first pen text
-  pub part : x ≡ adds 0 text (closing (length first.out.now - pen.at) (closing_count m - k) ending k m)
+  pub part : x ≡ adds 0 text (closing (length first.out.now - pen.at) (closing_count m - k) number k m)
 
-module _ {x : Part} {m : Mem} {ending : Ending} {first pen : Pen} {k : ℕ} (h : Shut x m ending first pen k) where
-  pub all_came : closing_count m ≤ k → Came x [] first.out.now (record { used = 0; written = pen.at; stand = Closes ending k; wants = wants.Nothing }) m pen.out.now
+module _ {x : Part} {m : Mem} {number : ℕ} {first pen : Pen} {k : ℕ} (h : Shut x m number first pen k) where
+  pub all_came : closing_count m ≤ k → Came x [] first.out.now (record { used = 0; written = pen.at; stand = Closes number k; wants = wants.Nothing }) m pen.out.now
   unfolding closing
   all_came l =
       let e : closing_count m - k ≡ 0 = omega arith in
@@ -201,53 +201,53 @@ module _ {x : Part} {m : Mem} {ending : Ending} {first pen : Pen} {k : ℕ} (h :
   one_left l = omega arith
 
   pub short_came : k < closing_count m → length pen.out.now - pen.at < line_room
-      → Came x [] first.out.now (record { used = 0; written = pen.at; stand = Closes ending k; wants = wants.Room }) m pen.out.now
+      → Came x [] first.out.now (record { used = 0; written = pen.at; stand = Closes number k; wants = wants.Room }) m pen.out.now
   unfolding closing
   short_came l short =
       came h.text (omega arith) h.begun (λ e. absurd (not_room e))
       (h.part ∙ rw (one_left l, lt-ltb (length first.out.now - pen.at) line_room (omega (arith, h.begun.wrote.long))))
 
-  pub line_on : {pen' : Pen} → k < closing_count m → line_room ≤ length pen.out.now - pen.at → Wrote pen pen' (closing_line m ending k)
-      → Shut x m ending first pen' (k + 1)
+  pub line_on : {pen' : Pen} → k < closing_count m → line_room ≤ length pen.out.now - pen.at → Wrote pen pen' (closing_line m number k)
+      → Shut x m number first pen' (k + 1)
   unfolding closing
   line_on {pen'} l wide g =
-      let less : length first.out.now - pen.at - length (closing_line m ending k) ≡ length first.out.now - pen'.at = omega (arith, g.place) in
+      let less : length first.out.now - pen.at - length (closing_line m number k) ≡ length first.out.now - pen'.at = omega (arith, g.place) in
       record {
-        text = h.text ++ closing_line m ending k;
+        text = h.text ++ closing_line m number k;
         begun = further h.begun g;
         part =
             h.part
             ∙ rw (one_left l, le-ltb (length first.out.now - pen.at) line_room (omega (arith, h.begun.wrote.long)))
-            (adds_adds 0 0 h.text (closing_line m ending k) _ ∙ rw less);
+            (adds_adds 0 0 h.text (closing_line m number k) _ ∙ rw less);
       }
 
-pub none_shut : (m : Mem) (ending : Ending) (k : ℕ) {pen : Pen} → pen.at ≡ 0 → Shut (closing (length pen.out.now) (closing_count m - k) ending k m) m ending pen pen k
-none_shut m ending k {pen} z =
+pub none_shut : (m : Mem) (number k : ℕ) {pen : Pen} → pen.at ≡ 0 → Shut (closing (length pen.out.now) (closing_count m - k) number k m) m number pen pen k
+none_shut m number k {pen} z =
     let e : length pen.out.now - pen.at ≡ length pen.out.now = omega arith in
-    record { text = []; begun = begun_none z; part = rw e (adds_none (closing (length pen.out.now) (closing_count m - k) ending k m)) }
+    record { text = []; begun = begun_none z; part = rw e (adds_none (closing (length pen.out.now) (closing_count m - k) number k m)) }
 
 -- it uses no byte of the bytes at hand, and never waits for input
-closing_other : (j room : ℕ) (ending : Ending) (k : ℕ) (m : Mem) → (closing room j ending k m).wants ≡ wants.Input → ⊥
+closing_other : (j room number k : ℕ) (m : Mem) → (closing room j number k m).wants ≡ wants.Input → ⊥
 unfolding closing rests adds
-closing_other zero room ending k m = not_nothing
-closing_other (suc j) room ending k m = go (ltb room line_room) (closing_other j (room - length (closing_line m ending k)) ending (k + 1) m)
+closing_other zero room number k m = not_nothing
+closing_other (suc j) room number k m = go (ltb room line_room) (closing_other j (room - length (closing_line m number k)) number (k + 1) m)
   where
-    go : (b : Bool) → ((closing (room - length (closing_line m ending k)) j ending (k + 1) m).wants ≡ wants.Input → ⊥)
-        → (cond b (rests (Closes ending k) m wants.Room)
-        (adds 0 (closing_line m ending k) (closing (room - length (closing_line m ending k)) j ending (k + 1) m))).wants ≡ wants.Input
+    go : (b : Bool) → ((closing (room - length (closing_line m number k)) j number (k + 1) m).wants ≡ wants.Input → ⊥)
+        → (cond b (rests (Closes number k) m wants.Room)
+        (adds 0 (closing_line m number k) (closing (room - length (closing_line m number k)) j number (k + 1) m))).wants ≡ wants.Input
         → ⊥
     go true h = not_room
     go false h = h
 
-pub any_bytes : {w out : List ℕ} {p : Piece} {m' out' : List ℕ} (j room : ℕ) (ending : Ending) (k : ℕ) (m : Mem) → Came (closing room j ending k m) [] out p m' out'
-    → Came (closing room j ending k m) w out p m' out'
+pub any_bytes : {w out : List ℕ} {p : Piece} {m' out' : List ℕ} (j room number k : ℕ) (m : Mem) → Came (closing room j number k m) [] out p m' out'
+    → Came (closing room j number k m) w out p m' out'
 unfolding said
-any_bytes j room ending k m h =
+any_bytes j room number k m h =
     record {
       says = h.says;
       words = h.words;
       text = h.text;
       within = omega (arith, h.within);
       room = h.room;
-      short = λ e. absurd (closing_other j room ending k m (sym (ap (λ (x : Piece). x.wants) h.says) ∙ e));
+      short = λ e. absurd (closing_other j room number k m (sym (ap (λ (x : Piece). x.wants) h.says) ∙ e));
     }

@@ -14,7 +14,7 @@ use crate::text::Pen;
 use lines::{Piece, Stand, Wants};
 use machine::RUN;
 use records::Place;
-use trace::{Ending, Heard};
+use trace::Heard;
 
 // The room that is asked for before a line: that of the longest there can be.
 const LINE: usize = 66;
@@ -62,11 +62,14 @@ fn follow(run: &mut [u32; RUN], place: Place, bytes: &[u8], last: bool, out: &mu
             }
             Ok(None) => {
                 if last {
-                    break (Stand::Closes(trace::at_end(here), 0), Wants::Room);
+                    break (
+                        Stand::Closes(trace::number(trace::at_end(here)), 0),
+                        Wants::Room,
+                    );
                 }
                 break (Stand::Reads(here), Wants::Input);
             }
-            Err(stop) => break (Stand::Closes(Err(stop), 0), Wants::Room),
+            Err(stop) => break (Stand::Closes(trace::number(Err(stop)), 0), Wants::Room),
         }
     };
     Piece {
@@ -77,11 +80,11 @@ fn follow(run: &mut [u32; RUN], place: Place, bytes: &[u8], last: bool, out: &mu
     }
 }
 
-// The line that follows k others when the trace has ended: `w` lines, `v` lines, the `e` line. Which it is goes by k alone, as in the definition.
+// The line that follows k others when the trace has ended with a number: `w` lines, `v` lines, the `e` line. Which it is goes by k alone, as in the definition.
 #[tactic(auto, using(crate::proofs::Lengths::closing_lengths, words::proofs::Reading::people_most), unfolding(lines::specs::Pieces::closing_line))]
-fn put_closing(pen: &mut Pen, run: &[u32; RUN], ending: Ending, k: u8)
+fn put_closing(pen: &mut Pen, run: &[u32; RUN], number: u32, k: u8)
     requires { pen.old.at + line_room ≤ length pen.old.out.now }
-    ensures { Wrote pen.old pen.new (Pieces.closing_line run.now ending k) }
+    ensures { Wrote pen.old pen.new (Pieces.closing_line run.now number k) }
 {
     let n = machine::size(run) as u8;
     if k < n {
@@ -89,14 +92,14 @@ fn put_closing(pen: &mut Pen, run: &[u32; RUN], ending: Ending, k: u8)
     } else if k < n + n {
         pen.v_line(k - n, machine::site(run, k - n));
     } else {
-        pen.e_line(machine::events(run), trace::number(ending));
+        pen.e_line(machine::events(run), number);
     }
 }
 
 // When the trace has ended: the lines that are left of those that follow the `h` lines.
 #[tactic(auto, using(words::proofs::Reading::people_most), unfolding(lines::specs::Pieces::closing_count))]
-fn close(run: &[u32; RUN], ending: Ending, from: u8, out: &mut [u8]) -> Piece
-    ensures { Came (Pieces.closing (length out.old) (Pieces.closing_count run.now - from) ending from run.now)
+fn close(run: &[u32; RUN], number: u32, from: u8, out: &mut [u8]) -> Piece
+    ensures { Came (Pieces.closing (length out.old) (Pieces.closing_count run.now - from) number from run.now)
         [] out.old result run.now out.new }
 {
     let n = machine::size(run) as u8;
@@ -107,16 +110,16 @@ fn close(run: &[u32; RUN], ending: Ending, from: u8, out: &mut [u8]) -> Piece
             return Piece {
                 used: 0,
                 written: pen.at,
-                stand: Stand::Closes(ending, k),
+                stand: Stand::Closes(number, k),
                 wants: Wants::Room,
             };
         }
-        put_closing(&mut pen, run, ending, k);
+        put_closing(&mut pen, run, number, k);
     }
     Piece {
         used: 0,
         written: pen.at,
-        stand: Stand::Closes(ending, from.max(end)),
+        stand: Stand::Closes(number, from.max(end)),
         wants: Wants::Nothing,
     }
 }
@@ -129,7 +132,7 @@ pub fn write(run: &mut [u32; RUN], stand: Stand, bytes: &[u8], last: bool, out: 
 {
     match stand {
         Stand::Reads(place) => follow(run, place, bytes, last, out),
-        Stand::Closes(ending, k) => close(run, ending, k, out),
+        Stand::Closes(number, k) => close(run, number, k, out),
     }
 }
 

@@ -8,5 +8,5 @@ use Rattle.sheet_text.proofs.close.Given as goal
 
 abbrev pub invariant-loop-k : goal.invariant-loop-k
 invariant-loop-k l =
-    (Shut (Pieces.closing (length l.initial.pen.out.now) (Pieces.closing_count l.run - l.from) l.ending l.from l.run) l.run l.ending l.initial.pen l.pen l.k)
+    (Shut (Pieces.closing (length l.initial.pen.out.now) (Pieces.closing_count l.run - l.from) l.number l.from l.run) l.run l.number l.initial.pen l.pen l.k)
     × (l.k ≤ max l.from l.end)

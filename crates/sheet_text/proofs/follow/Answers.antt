@@ -30,11 +30,11 @@ returns c = elim c.if-room-lt-LINE.branch [
   | then-room-lt-LINE w ↦ rw (w.run-is, w.used-is, w.stand-is) (back (full_came c.loop-here.invariant (omega arith)) (search rules))
   | else-room-lt-LINE+in-Ok-None+then-last w ↦
       let turn = took c.loop-here.invariant (omega arith) w.hasten-used.ensures w.one_record.ensures.exact in
-      rw (w.run-is, w.used-is, w.stand-is) (back (last_came turn (w.in-Ok-None.is ∙ ap Ok w.in-Ok-None.field-0-is) w.if-last.true w.at_end.ensures) (search rules))
+      rw (w.run-is, w.used-is, w.stand-is) (back (last_came turn (w.in-Ok-None.is ∙ ap Ok w.in-Ok-None.field-0-is) w.if-last.true w.at_end.ensures w.number.ensures) (search rules))
   | else-room-lt-LINE+in-Ok-None+else-last w ↦
       let turn = took c.loop-here.invariant (omega arith) w.hasten-used.ensures w.one_record.ensures.exact in
       rw (w.run-is, w.used-is, w.stand-is) (back (more_came turn (λ i. omega (arith, c.type_inv.bytes i)) (w.in-Ok-None.is ∙ ap Ok w.in-Ok-None.field-0-is) w.if-last.false) (search rules))
   | else-room-lt-LINE+in-Err w ↦
       let turn = took c.loop-here.invariant (omega arith) w.hasten-used.ensures w.one_record.ensures.exact in
-      rw (w.run-is, w.used-is, w.stand-is) (back (ends_came turn w.in-Err.is) (search rules))
+      rw (w.run-is, w.used-is, w.stand-is) (back (ends_came turn w.in-Err.is w.number-in-Err.ensures) (search rules))
 ]
