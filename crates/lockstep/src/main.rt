@@ -2,7 +2,7 @@
 // What is left at the end is known, and 'ok' is written where it is so. bench/ times this beside the same loop in C.
 #![tactic(auto)]
 
-ghost use Rattle.std.specs.Prelude.{ℕ, ◌*◌, ◌≡◌};
+ghost use Rattle.std.specs.Prelude.{ℕ, ◌*◌, ◌≡◌, length};
 ghost use Rattle.rounds.specs.Limits.{most_processes};
 ghost use Rattle.rounds.specs.Config.{Config, opening};
 ghost use Rattle.rounds.specs.Runs as Runs;
@@ -16,9 +16,6 @@ use std::io;
 
 // As many processes as there can be.
 const ALL: u8 = MOST_PROCESSES as u8;
-
-// A value for each.
-const VALUES: usize = MOST_PROCESSES as usize;
 
 // The set of all of them.
 const EVERYONE: u32 = (1 << MOST_PROCESSES) - 1;
@@ -77,8 +74,8 @@ fn round(run: &mut [u32; RUN])
 }
 
 // A run of the most processes with these values, from its opening: every event is accepted, and counted.
-fn night(run: &mut [u32; RUN], values: &[u32; VALUES])
-    ensures { (v : ℕ → ℕ) → Given most_processes values.now v
+fn night(run: &mut [u32; RUN], values: &[u32])
+    ensures { (v : ℕ → ℕ) → length values.now ≡ most_processes → Given most_processes values.now v
         → Shows run.new (after (opening most_processes v) (many_rounds 1890))
         × ((control_of run.new).events ≡ round_events * 1890) }
 {

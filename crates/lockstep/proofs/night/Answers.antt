@@ -15,16 +15,16 @@ use Rattle.lockstep.proofs.night.Goals as goal
 pub loop-init : goal.loop-init
 unfolding many_rounds after
 loop-init c =
-    λ v g. c.begin.ensures.meaning (c.begin.ensures.exact.0 ∙ ap (open_verdict most_processes) (omega arith) ∙ most_open) v g
+    λ v e g. c.begin.ensures.meaning (c.begin.ensures.exact.0 ∙ ap (open_verdict most_processes) e ∙ most_open) v g
 
 pub loop-preserved : goal.loop-preserved
 loop-preserved c =
     let l = c.loop in
-    λ v g. rounds_next (opening most_processes v) l.counter (l.invariant v g) c.round.ensures
+    λ v e g. rounds_next (opening most_processes v) l.counter (l.invariant v e g) c.round.ensures
 
 pub returns : goal.returns
 returns c =
     let l = c.loop in
     let f : l.counter ≡ 1890 = omega arith in
     let runs = rw f at l.invariant in
-    λ v g. (runs v g, events_means _ _ (runs v g) ∙ all_counted v 1890 (omega arith))
+    λ v e g. (runs v e g, events_means _ _ (runs v e g) ∙ all_counted v 1890 (omega arith))
