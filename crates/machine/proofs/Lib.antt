@@ -2,4 +2,5 @@
 pub mod Rooms
 pub mod Told
 pub mod Heard
+pub mod Clearing
 pub mod Numbers

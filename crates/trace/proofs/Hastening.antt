@@ -1,10 +1,10 @@
 -- Sends and receives taken all at once: they are turns that go on and tell nothing, so whatever such turns keep is kept. Assumes nothing.
-use Prim.Native.Nat.{ℕ, zero, suc, ◌+◌, ◌-◌, ◌≤◌, ◌<◌}
+use Prim.Native.Nat.{ℕ, zero, suc, ◌+◌, ◌-◌, ◌*◌, ◌≤◌, ◌<◌}
 use native.Mathlib.Omega.{arith}
 use mathlib.Core.Path.{◌≡◌, refl, sym, ap, ◌∙◌}
 use mathlib.Core.Bool.{Bool, true, false, cond, ◌&&◌, true≢false}
 use mathlib.Core.List.{List, [], ◌∷◌}
-use borrow.Author.Tests.{le-ltb, ltb-false, eqb-true}
+use borrow.Author.Tests.{le-ltb, ltb-false, eq-eqb, ne_eqb, eqb-true, eqb-false}
 use lib.Dec.{ltb, eqb}
 use lib.ListN.{length, get_or, take, drop, length-drop}
 use lib.Seq.{drop-drop, get_or-drop, get_or-take}
@@ -186,6 +186,23 @@ haste_ahead First m w = refl
 haste_ahead Later m w =
     haste_kept (λ u x v. ahead Later m w ≡ ahead Later x v) (λ u x v e l h. h ∙ goes_ahead Later x v e) 0 m w refl
 haste_ahead Behind m w = refl
+
+-- ---- tag and length as one number, as the code has them
+head_is_lem : (w : List ℕ) (tag r : ℕ) → get_or w 0 0 < 256 → get_or w 1 0 < 256 → get_or w 2 0 < 256
+    → r ≡ get_or w 0 0 * 65536 + get_or w 1 0 * 256 + get_or w 2 0 → head_is tag w ≡ eqb r (tag * 65536 + 2)
+unfolding head_is
+head_is_lem w tag r a b c e = go (eqb (get_or w 0 0) tag) refl (eqb (get_or w 1 0) 0) refl (eqb (get_or w 2 0) 2) refl
+  where
+    go : (x : Bool) → eqb (get_or w 0 0) tag ≡ x → (y : Bool) → eqb (get_or w 1 0) 0 ≡ y → (z : Bool) → eqb (get_or w 2 0) 2 ≡ z
+        → x && (y && z) ≡ eqb r (tag * 65536 + 2)
+    go true p true q true s =
+        let one = eqb-true (get_or w 0 0) tag p in
+        let two = eqb-true (get_or w 1 0) 0 q in
+        let three = eqb-true (get_or w 2 0) 2 s in
+        sym (eq-eqb r (tag * 65536 + 2) (omega arith))
+    go false p y q z s = sym (ne_eqb r (tag * 65536 + 2) (λ (f : r ≡ tag * 65536 + 2). eqb-false (get_or w 0 0) tag p (omega arith)))
+    go true p false q z s = sym (ne_eqb r (tag * 65536 + 2) (λ (f : r ≡ tag * 65536 + 2). eqb-false (get_or w 1 0) 0 q (omega arith)))
+    go true p true q false s = sym (ne_eqb r (tag * 65536 + 2) (λ (f : r ≡ tag * 65536 + 2). eqb-false (get_or w 2 0) 2 s (omega arith)))
 
 -- ---- as the code finds it: by the first bytes
 module _ (m : Mem) (w : List ℕ) where

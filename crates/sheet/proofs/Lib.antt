@@ -1,0 +1,2 @@
+-- What the program's functions rest on.
+pub mod Printing
