@@ -51,7 +51,7 @@ module _ (w unread : List ℕ) where
     same : ahead pl m (held ++ unread) ≡ ahead First blank w
     lines : h_lines (outcome w).reports ≡ text ++ h_lines (told_ahead pl m (held ++ unread))
 
-  -- when it has ended: how, and the words are those of the trace, and the text is all that it reports and so many lines more
+  -- when it has ended: the number and the words are those of the trace, and the text is all that it reports and so many lines more
   record Closing (number k : ℕ) (m : Mem) (text : List ℕ) : Type 0 where
     right : number ≡ ending_number (outcome w).ending
     words : m ≡ trace_words w
